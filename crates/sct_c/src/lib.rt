@@ -10,7 +10,7 @@ ghost use Rattle.sct_version.specs.Numbers.{version_number};
 ghost use Rattle.sct_version.specs.declared.TheConstants.{VERSION};
 
 use sct_embed::{
-    AcceptOutcome, LinesOutcome, Outcome, Place, Question, TakeOutcome, copy_code_name,
+    AcceptOutcome, CallOutcome, LinesOutcome, Place, Question, TakeOutcome, copy_code_name,
     copy_code_text,
 };
 use sct_version::version_number;
@@ -18,7 +18,12 @@ use std::alloc::Global;
 
 /// Opens the site `number` of a group of `group` sites in an empty place.
 #[unsafe(no_mangle)]
-pub extern "C" fn sct_raw_open(alloc: Global, site: &mut Place, number: u16, group: u16) -> Outcome
+pub extern "C" fn sct_raw_open(
+    alloc: Global,
+    site: &mut Place,
+    number: u16,
+    group: u16,
+) -> CallOutcome
     ensures { Opens number group site.old.handle.held result site.new.handle.held }
 {
     site.open(alloc, number, group)
@@ -33,7 +38,7 @@ pub extern "C" fn sct_raw_restore(
     group: u16,
     journal: &[u8],
     delta: &[u8],
-) -> Outcome
+) -> CallOutcome
     ensures { Restores number group journal.now delta.now site.old.handle.held result site.new.handle.held }
 {
     site.restore(alloc, number, group, journal, delta)
@@ -73,7 +78,7 @@ pub extern "C" fn sct_raw_accept(alloc: Global, site: &mut Place, text: &[u8]) -
 
 /// Writes how many entries of each origin the site holds, that of origin 1 first.
 #[unsafe(no_mangle)]
-pub extern "C" fn sct_raw_counts(alloc: Global, site: &mut Place, counts: &mut [u64]) -> Outcome
+pub extern "C" fn sct_raw_counts(alloc: Global, site: &mut Place, counts: &mut [u64]) -> CallOutcome
     ensures called { IsCalled refused_as (Counts counts.old counts.new) site.old.handle.held result site.new.handle.held }
     ensures unwritten { result.ok ≡ false → counts.new ≡ counts.old }
 {
@@ -82,7 +87,7 @@ pub extern "C" fn sct_raw_counts(alloc: Global, site: &mut Place, counts: &mut [
 
 /// The version vector becomes the answer, as text.
 #[unsafe(no_mangle)]
-pub extern "C" fn sct_raw_vector_text(alloc: Global, site: &mut Place) -> Outcome
+pub extern "C" fn sct_raw_vector_text(alloc: Global, site: &mut Place) -> CallOutcome
     ensures { IsCalled refused_as (Asks question.Vector) site.old.handle.held result site.new.handle.held }
 {
     site.ask(alloc, Question::Vector)
@@ -90,7 +95,7 @@ pub extern "C" fn sct_raw_vector_text(alloc: Global, site: &mut Place) -> Outcom
 
 /// The delta above a version vector of text becomes the answer.
 #[unsafe(no_mangle)]
-pub extern "C" fn sct_raw_cut(alloc: Global, site: &mut Place, vector: &[u8]) -> Outcome
+pub extern "C" fn sct_raw_cut(alloc: Global, site: &mut Place, vector: &[u8]) -> CallOutcome
     ensures { IsCalled refused_as (Asks (question.Cut vector.entry)) site.old.handle.held result site.new.handle.held }
 {
     site.ask(alloc, Question::Cut(vector))
@@ -98,7 +103,7 @@ pub extern "C" fn sct_raw_cut(alloc: Global, site: &mut Place, vector: &[u8]) ->
 
 /// The delta above a vector of counts becomes the answer.
 #[unsafe(no_mangle)]
-pub extern "C" fn sct_raw_cut_above(alloc: Global, site: &mut Place, counts: &[u64]) -> Outcome
+pub extern "C" fn sct_raw_cut_above(alloc: Global, site: &mut Place, counts: &[u64]) -> CallOutcome
     ensures { IsCalled refused_as (Asks (question.CutAbove counts.entry)) site.old.handle.held result site.new.handle.held }
 {
     site.ask(alloc, Question::CutAbove(counts))
@@ -106,7 +111,7 @@ pub extern "C" fn sct_raw_cut_above(alloc: Global, site: &mut Place, counts: &[u
 
 /// The site's own messages numbered above a count become the answer, each on a line.
 #[unsafe(no_mangle)]
-pub extern "C" fn sct_raw_journal_text(alloc: Global, site: &mut Place, above: u64) -> Outcome
+pub extern "C" fn sct_raw_journal_text(alloc: Global, site: &mut Place, above: u64) -> CallOutcome
     ensures { IsCalled refused_as (Asks (question.Journal above)) site.old.handle.held result site.new.handle.held }
 {
     site.ask(alloc, Question::Journal(above))
@@ -114,7 +119,7 @@ pub extern "C" fn sct_raw_journal_text(alloc: Global, site: &mut Place, above: u
 
 /// The messages that came last become the answer, at most so many, each on a line.
 #[unsafe(no_mangle)]
-pub extern "C" fn sct_raw_newest_text(alloc: Global, site: &mut Place, count: u64) -> Outcome
+pub extern "C" fn sct_raw_newest_text(alloc: Global, site: &mut Place, count: u64) -> CallOutcome
     ensures { IsCalled refused_as (Asks (question.Newest count)) site.old.handle.held result site.new.handle.held }
 {
     site.ask(alloc, Question::Newest(count))
@@ -122,7 +127,7 @@ pub extern "C" fn sct_raw_newest_text(alloc: Global, site: &mut Place, count: u6
 
 /// What the site reads in the lines of a text becomes the answer. None of them is taken.
 #[unsafe(no_mangle)]
-pub extern "C" fn sct_raw_reading_text(alloc: Global, site: &mut Place, text: &[u8]) -> Outcome
+pub extern "C" fn sct_raw_reading_text(alloc: Global, site: &mut Place, text: &[u8]) -> CallOutcome
     ensures { IsCalled refused_as (Asks (question.Reading text.entry)) site.old.handle.held result site.new.handle.held }
 {
     site.ask(alloc, Question::Reading(text))
@@ -130,7 +135,7 @@ pub extern "C" fn sct_raw_reading_text(alloc: Global, site: &mut Place, text: &[
 
 /// Evaluates what is new. No answer changes.
 #[unsafe(no_mangle)]
-pub extern "C" fn sct_raw_evaluate(alloc: Global, site: &mut Place) -> Outcome
+pub extern "C" fn sct_raw_evaluate(alloc: Global, site: &mut Place) -> CallOutcome
     ensures { IsCalled refused_as Evaluates site.old.handle.held result site.new.handle.held }
 {
     site.evaluate(alloc)
@@ -138,7 +143,7 @@ pub extern "C" fn sct_raw_evaluate(alloc: Global, site: &mut Place) -> Outcome
 
 /// The archive text becomes the answer.
 #[unsafe(no_mangle)]
-pub extern "C" fn sct_raw_archive_text(alloc: Global, site: &mut Place) -> Outcome
+pub extern "C" fn sct_raw_archive_text(alloc: Global, site: &mut Place) -> CallOutcome
     ensures { IsCalled refused_as (Asks question.Archive) site.old.handle.held result site.new.handle.held }
 {
     site.ask(alloc, Question::Archive)
@@ -146,7 +151,7 @@ pub extern "C" fn sct_raw_archive_text(alloc: Global, site: &mut Place) -> Outco
 
 /// The status text becomes the answer.
 #[unsafe(no_mangle)]
-pub extern "C" fn sct_raw_status_text(alloc: Global, site: &mut Place) -> Outcome
+pub extern "C" fn sct_raw_status_text(alloc: Global, site: &mut Place) -> CallOutcome
     ensures { IsCalled refused_as (Asks question.Status) site.old.handle.held result site.new.handle.held }
 {
     site.ask(alloc, Question::Status)
@@ -154,7 +159,7 @@ pub extern "C" fn sct_raw_status_text(alloc: Global, site: &mut Place) -> Outcom
 
 /// The totals text becomes the answer.
 #[unsafe(no_mangle)]
-pub extern "C" fn sct_raw_totals_text(alloc: Global, site: &mut Place) -> Outcome
+pub extern "C" fn sct_raw_totals_text(alloc: Global, site: &mut Place) -> CallOutcome
     ensures { IsCalled refused_as (Asks question.Totals) site.old.handle.held result site.new.handle.held }
 {
     site.ask(alloc, Question::Totals)
@@ -162,7 +167,7 @@ pub extern "C" fn sct_raw_totals_text(alloc: Global, site: &mut Place) -> Outcom
 
 /// The contradicted identities become the answer.
 #[unsafe(no_mangle)]
-pub extern "C" fn sct_raw_contradictions_text(alloc: Global, site: &mut Place) -> Outcome
+pub extern "C" fn sct_raw_contradictions_text(alloc: Global, site: &mut Place) -> CallOutcome
     ensures { IsCalled refused_as (Asks question.Contradictions) site.old.handle.held result site.new.handle.held }
 {
     site.ask(alloc, Question::Contradictions)
@@ -175,7 +180,7 @@ pub extern "C" fn sct_raw_transfer_text(
     site: &mut Place,
     bank: &[u8],
     tx: &[u8],
-) -> Outcome
+) -> CallOutcome
     ensures { IsCalled refused_as (Asks (question.Transfer bank.entry tx.entry)) site.old.handle.held result site.new.handle.held }
 {
     site.ask(alloc, Question::Transfer { bank, tx })
@@ -188,7 +193,7 @@ pub extern "C" fn sct_raw_messages_text(
     site: &mut Place,
     bank: &[u8],
     tx: &[u8],
-) -> Outcome
+) -> CallOutcome
     ensures { IsCalled refused_as (Asks (question.Messages bank.entry tx.entry)) site.old.handle.held result site.new.handle.held }
 {
     site.ask(alloc, Question::Messages { bank, tx })
@@ -196,7 +201,7 @@ pub extern "C" fn sct_raw_messages_text(
 
 /// The line of one bank becomes the answer, as the totals text has it.
 #[unsafe(no_mangle)]
-pub extern "C" fn sct_raw_bank_totals(alloc: Global, site: &mut Place, bank: &[u8]) -> Outcome
+pub extern "C" fn sct_raw_bank_totals(alloc: Global, site: &mut Place, bank: &[u8]) -> CallOutcome
     ensures { IsCalled refused_as (Asks (question.Bank bank.entry)) site.old.handle.held result site.new.handle.held }
 {
     site.ask(alloc, Question::Bank(bank))
@@ -210,7 +215,7 @@ pub extern "C" fn sct_raw_report(
     bank: &[u8],
     day: &[u8],
     list: &[u8],
-) -> Outcome
+) -> CallOutcome
     ensures { IsCalled refused_as (Asks (question.Report bank.entry day.entry list.entry)) site.old.handle.held result site.new.handle.held }
 {
     site.ask(alloc, Question::Report { bank, day, list })
@@ -218,7 +223,7 @@ pub extern "C" fn sct_raw_report(
 
 /// What is kept on a day becomes the answer, as the archive text has it.
 #[unsafe(no_mangle)]
-pub extern "C" fn sct_raw_kept_text(alloc: Global, site: &mut Place, day: &[u8]) -> Outcome
+pub extern "C" fn sct_raw_kept_text(alloc: Global, site: &mut Place, day: &[u8]) -> CallOutcome
     ensures { IsCalled refused_as (Asks (question.Kept day.entry)) site.old.handle.held result site.new.handle.held }
 {
     site.ask(alloc, Question::Kept(day))
@@ -226,7 +231,7 @@ pub extern "C" fn sct_raw_kept_text(alloc: Global, site: &mut Place, day: &[u8])
 
 /// What is closed on a day becomes the answer, as the archive text has it.
 #[unsafe(no_mangle)]
-pub extern "C" fn sct_raw_closed_text(alloc: Global, site: &mut Place, day: &[u8]) -> Outcome
+pub extern "C" fn sct_raw_closed_text(alloc: Global, site: &mut Place, day: &[u8]) -> CallOutcome
     ensures { IsCalled refused_as (Asks (question.Closed day.entry)) site.old.handle.held result site.new.handle.held }
 {
     site.ask(alloc, Question::Closed(day))
@@ -234,7 +239,7 @@ pub extern "C" fn sct_raw_closed_text(alloc: Global, site: &mut Place, day: &[u8
 
 /// What changed since the call before becomes the answer.
 #[unsafe(no_mangle)]
-pub extern "C" fn sct_raw_changes(alloc: Global, site: &mut Place) -> Outcome
+pub extern "C" fn sct_raw_changes(alloc: Global, site: &mut Place) -> CallOutcome
     ensures { IsCalled refused_as (Asks question.Changes) site.old.handle.held result site.new.handle.held }
 {
     site.ask(alloc, Question::Changes)
@@ -242,7 +247,7 @@ pub extern "C" fn sct_raw_changes(alloc: Global, site: &mut Place) -> Outcome
 
 /// Copies the answer, if it fits, and says its length.
 #[unsafe(no_mangle)]
-pub extern "C" fn sct_raw_answer(alloc: Global, site: &mut Place, out: &mut [u8]) -> Outcome
+pub extern "C" fn sct_raw_answer(alloc: Global, site: &mut Place, out: &mut [u8]) -> CallOutcome
     ensures called { IsCalled refused_as (Copies out.old out.new) site.old.handle.held result site.new.handle.held }
     ensures unwritten { result.ok ≡ false → out.new ≡ out.old }
 {
@@ -256,7 +261,7 @@ pub extern "C" fn sct_raw_answer_part(
     site: &mut Place,
     from: usize,
     out: &mut [u8],
-) -> Outcome
+) -> CallOutcome
     ensures called { IsCalled refused_as (CopiesPart from out.old out.new) site.old.handle.held result site.new.handle.held }
     ensures unwritten { result.ok ≡ false → out.new ≡ out.old }
 {
@@ -265,7 +270,7 @@ pub extern "C" fn sct_raw_answer_part(
 
 /// The answer becomes empty, and its memory is freed.
 #[unsafe(no_mangle)]
-pub extern "C" fn sct_raw_answer_end(alloc: Global, site: &mut Place) -> Outcome
+pub extern "C" fn sct_raw_answer_end(alloc: Global, site: &mut Place) -> CallOutcome
     ensures { IsCalled refused_as EndsAnswer site.old.handle.held result site.new.handle.held }
 {
     site.end_answer(alloc)
@@ -273,7 +278,7 @@ pub extern "C" fn sct_raw_answer_end(alloc: Global, site: &mut Place) -> Outcome
 
 /// Copies why the last call was refused, if it fits, and says the length of that text.
 #[unsafe(no_mangle)]
-pub extern "C" fn sct_raw_why(alloc: Global, site: &mut Place, out: &mut [u8]) -> Outcome
+pub extern "C" fn sct_raw_why(alloc: Global, site: &mut Place, out: &mut [u8]) -> CallOutcome
     ensures called { IsCalled refused_as (CopiesReason out.old out.new) site.old.handle.held result site.new.handle.held }
     ensures unwritten { result.ok ≡ false → out.new ≡ out.old }
 {

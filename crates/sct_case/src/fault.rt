@@ -2,7 +2,7 @@
 
 ghost use Rattle.std.specs.Prelude.{◌≡◌};
 
-use std::alloc::{AllocError, AllocFailed};
+use std::alloc::AllocError;
 use thiserror::Error;
 
 /// 39: out of memory.
@@ -29,8 +29,9 @@ impl From<AllocError> for CaseFault {
     }
 }
 
-impl<T: Drop> From<AllocFailed<T>> for CaseFault {
-    fn from(_: AllocFailed<T>) -> Self {
-        CaseFault::Memory
+/// Callers whose only error is out of memory hand the fault on with `?`.
+impl From<CaseFault> for AllocError {
+    fn from(_: CaseFault) -> Self {
+        AllocError
     }
 }

@@ -11,7 +11,6 @@ pub mod laws;
 mod recall_order;
 mod recalls;
 mod said;
-mod standing;
 mod status;
 mod words;
 

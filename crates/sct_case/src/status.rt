@@ -1,8 +1,11 @@
 //! The status of a transfer, and the status of a recall.
 ghost use Rattle.std.specs.Prelude.{◌≡◌, IfOk};
 ghost use Rattle.sct_case.specs.Statuses.{as_standing};
+ghost use Rattle.sct_case.specs.Inside.{standing_said};
 
+use crate::differ::first;
 use crate::finding::{Finding, copy_findings};
+use crate::said::Said;
 use sct_element::Amount;
 use sct_reason::Reason;
 use std::alloc::{AllocError, Global};
@@ -44,6 +47,30 @@ impl Status {
             Status::Investigated => Ok(Status::Investigated),
             Status::Pending => Ok(Status::Pending),
         }
+    }
+}
+
+impl Said {
+    /// The status of the transfer, if it has no finding.
+    pub(crate) fn standing(&self) -> Status
+        ensures { as_standing result ≡ standing_said self.now }
+    {
+        if self.instructions.is_empty() {
+            return Status::Missing;
+        }
+        if let Some(rejection) = first(&self.rejections) {
+            return Status::Rejected(rejection.reason.copy());
+        }
+        if self.accepted {
+            return match first(&self.returns) {
+                Some(made) => Status::Returned(made.amount),
+                None => Status::Accepted,
+            };
+        }
+        if self.investigated {
+            return Status::Investigated;
+        }
+        Status::Pending
     }
 }
 

@@ -1,16 +1,17 @@
-//! Why entries, deltas and version vectors are refused.
-
-ghost use Rattle.std.specs.Prelude.{◌≡◌};
+//! Why entries, deltas and version vectors are refused, and the text of it for the crates that report refused deltas.
+ghost use Rattle.std.specs.Prelude.{◌≡◌, ◌++◌, IfOk, string_bytes};
 ghost use Rattle.sct_delta.specs.declared.fault.DeltaFault.TheVariants as fault;
+ghost use Rattle.sct_delta.specs.Faults.{fields_of_fault};
 
 use std::alloc::{AllocError, AllocFailed};
+use std::fmt::Write;
 use thiserror::Error;
 
 /// Why entries, a delta or a version vector are refused. The refused call has changed nothing.
 #[derive(Debug, Drop, PartialEq, Eq, Error)]
 pub enum DeltaFault {
     /// 40: out of memory.
-    #[error("memory is wanting")]
+    #[error("out of memory")]
     Memory,
     /// 41: only `have` entries of this origin are held, but the delta begins at number `first`, past the next one.
     #[error("origin {origin}: {have} entries are held, and the delta begins at {first}")]
@@ -60,5 +61,28 @@ impl<T: Drop> From<AllocFailed<T>> for DeltaFault {
 
     fn from(_: AllocFailed<T>) -> Self {
         DeltaFault::Memory
+    }
+}
+
+/// Appends the number of a fault and its fields, with the separator between each two, as in `41|1|0|2`. The error is that it is
+/// out of memory.
+#[tactic(auto, unfolding(crate::specs::Faults::fields_of_fault))]
+pub fn push_fault(text: &mut String, fault: &DeltaFault, separator: &str) -> Result<(), AllocError>
+    ensures { IfOk result (λ _. string_bytes text.new ≡ string_bytes text.old ++ fields_of_fault separator.now fault.now) }
+{
+    match fault {
+        DeltaFault::Memory => text.push_str("40"),
+        DeltaFault::Gap {
+            origin,
+            have,
+            first,
+        } => write!(
+            text,
+            "41{separator}{origin}{separator}{have}{separator}{first}"
+        ),
+        DeltaFault::Fork { origin, n } => write!(text, "42{separator}{origin}{separator}{n}"),
+        DeltaFault::OwnAhead { n } => write!(text, "43{separator}{n}"),
+        DeltaFault::BadSite => text.push_str("44"),
+        DeltaFault::BadDelta(line) => write!(text, "45{separator}{line}"),
     }
 }

@@ -9,7 +9,6 @@ mod fits;
 mod join;
 pub mod laws;
 mod logs;
-mod refusal;
 mod shelf;
 mod sites;
 mod text;
@@ -17,17 +16,15 @@ mod vector;
 
 pub use delta::{Delta, entries_make_a_delta};
 pub use entry::{Entry, messages_in};
-pub use fault::DeltaFault;
+pub use fault::{DeltaFault, push_fault};
 pub use logs::Logs;
-pub use refusal::push_fault;
 pub use sites::MOST_SITES;
-pub use text::fields::{after_prefix, number_before_space};
+pub use text::fields::{after_prefix, number_before_space, number_of};
 pub use text::laws::{
     a_text_is_a_form_of_one_delta, a_text_is_read_where_it_is_a_form,
     a_wrong_line_goes_by_its_front, a_wrong_line_means_no_form, both_forms_are_read_alike,
     lines_make_the_text, the_lines_before_a_wrong_one_are_right,
 };
-pub use text::numbers::number_of;
 pub use text::reading::read_delta;
 pub use text::vectors::{a_written_vector_is_read_back, read_vector, write_vector};
 pub use text::writing::write_delta;

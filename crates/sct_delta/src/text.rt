@@ -5,8 +5,6 @@ mod entries;
 pub mod fields;
 mod groups;
 pub mod laws;
-mod lines;
-pub mod numbers;
 mod parts;
 pub mod reading;
 pub mod vectors;

@@ -14,12 +14,12 @@ use Rattle.sct_delta.specs.Entries.{Placed}
 use Rattle.sct_delta.specs.Refusals.{ahead_refusal, first_refusal, firsts_after, gap_refusal, is_ahead, is_fork, is_held, is_outside, is_past, outside_refusal, fault_of_entry, vector_of}
 use Rattle.sct_delta.specs.declared.fault.DeltaFault.{DeltaFault}
 use Rattle.sct_delta.specs.declared.fault.DeltaFault.TheVariants as delta_fault
-use Rattle.sct_history.specs.Sights.{Sight}
-use Rattle.sct_history.proofs.Prefixes.{prefix_self, prefix_trans, prefix_length, prefix_whole}
+use Rattle.sct_site.specs.Sights.{Sight}
+use Rattle.sct_site.proofs.Prefixes.{prefix_self, prefix_trans, prefix_length, prefix_whole}
 use Rattle.sct_site.specs.Cores.{Core, is_repeat, took_by, arrivals_taken, own_entry, logs_of, refusal_by, fresh_entries, arrivals_joined}
 use Rattle.sct_site.specs.declared.answers.Accepted.{Accepted}
 use Rattle.sct_desk.specs.declared.shown.Shown.{Shown}
-use Rattle.sct_desk.specs.declared.shown.Batch.{Batch}
+use Rattle.sct_desk.specs.declared.shown.ViewUpdate.{ViewUpdate}
 use Rattle.sct_desk.specs.declared.fault.DeskFault.{DeskFault}
 use Rattle.sct_desk.specs.HeldOk.{IsHeld}
 use Rattle.sct_desk.specs.Locked.{Locked, Fails, IsDeltaRefusal, Publishes, answer_for, answer_to_delta, arrivals_for, arrivals_handed, came_by_delta, came_by_take, unpublished}
@@ -29,7 +29,7 @@ use Rattle.sct_desk.specs.Rules.{view_of}
 -- ---- more arrivals
 
 -- more arrivals lie under the lock, with a mark for each
-pub held_more : (book : Book) (number group : ℕ) (core : Core) (track : Sight) (x : Shown) (bs : List Batch) (handed : ℕ) (marks : List ℕ)
+pub held_more : (book : Book) (number group : ℕ) (core : Core) (track : Sight) (x : Shown) (bs : List ViewUpdate) (handed : ℕ) (marks : List ℕ)
     → IsHeld book number group core track x bs handed marks
     → (more : Core) (new : List ℕ) → more.number ≡ core.number → more.group ≡ core.group → IsPrefix core.arrivals more.arrivals
     → length more.arrivals ≤ length new

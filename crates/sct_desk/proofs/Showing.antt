@@ -8,8 +8,8 @@ use Rattle.crossbeam_utils.specs.Register.{Admits, TurnsAt, Forks, Merges}
 use Rattle.atomic_table.proofs.Lists.{at_set, at_snoc}
 use Rattle.logbook.specs.Pages.{Book}
 use Rattle.sct_delta.specs.Entries.{messages_of}
-use Rattle.sct_history.specs.Sights.{Sight}
-use Rattle.sct_history.proofs.Prefixes.{prefix_self, prefix_trans}
+use Rattle.sct_site.specs.Sights.{Sight}
+use Rattle.sct_site.proofs.Prefixes.{prefix_self, prefix_trans}
 use Rattle.sct_desk.specs.declared.shown.Shown.{Shown}
 use Rattle.sct_desk.specs.Rules.{AllKnow, KeepsRule, Known, Knows, Shows, known_of, longer_known, nothing_known}
 

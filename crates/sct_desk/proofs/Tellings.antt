@@ -4,7 +4,7 @@ use Rattle.std.specs.Prelude.{slice_index, Option, Some, None, MatchOption}
 use Rattle.std.proofs.lemmas.List.Elements.{filter_more}
 use mathlib.Core.List.{IsPrefix}
 use Rattle.sct_delta.specs.Entries.{Placed}
-use Rattle.sct_history.proofs.Prefixes.{prefix_whole}
+use Rattle.sct_site.proofs.Prefixes.{prefix_whole}
 use Rattle.sct_desk.specs.Passes.{Told}
 use Rattle.sct_desk.specs.Locked.{Locked}
 use Rattle.sct_desk.specs.Tilings.{AllBegin, IsFirstUnmarked, IsLeastUntold, IsPendingFrom, OneShowsMore, Tiles, tells, tellings, up_to_two}

@@ -8,9 +8,9 @@ use Rattle.logbook.specs.Pages.{Book}
 use Rattle.sct_message.specs.Sets.{messages_in}
 use Rattle.sct_set.specs.Contents.{contents_of}
 use Rattle.sct_delta.specs.Entries.{Placed, messages_of}
-use Rattle.sct_history.specs.Sights.{Sight}
+use Rattle.sct_site.specs.Sights.{Sight}
 use Rattle.sct_desk.specs.declared.shown.Shown.{Shown}
-use Rattle.sct_desk.specs.declared.shown.Batch.{Batch}
+use Rattle.sct_desk.specs.declared.shown.ViewUpdate.{ViewUpdate}
 
 -- ---- what seats know
 
@@ -62,10 +62,10 @@ GoesOn x y = (x.track.book ≡ y.track.book) × IsPrefix x.track.log y.track.log
 abbrev pub view_of : Book → List Placed → Shown
 view_of book entries = record { view = messages_of entries; track = record { book = book; log = entries } }
 
--- the view after one more batch
-abbrev pub absorbed : Shown → Batch → Shown
+-- the view after one more update
+abbrev pub absorbed : Shown → ViewUpdate → Shown
 absorbed s b = record { view = set.union s.view (contents_of (messages_in b.messages.items)); track = b.track }
 
--- the view after all batches that are handed over
-abbrev pub handed_over : Shown → List Batch → Shown
-handed_over s batches = fold absorbed s batches
+-- the view after all updates that are handed over
+abbrev pub handed_over : Shown → List ViewUpdate → Shown
+handed_over s updates = fold absorbed s updates

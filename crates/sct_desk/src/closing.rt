@@ -20,10 +20,9 @@ ghost use Rattle.sct_desk.specs.Tilings.{
 ghost use Rattle.sct_desk.specs.declared.fault.DeskFault.TheVariants as fault;
 
 use crate::fault::DeskFault;
-use crate::held::Held;
+use crate::held::{HeldArrivals, Site};
 use crate::receipt::Receipt;
-use crate::site::Site;
-use sct_history::Track;
+use sct_site::Track;
 use std::sync::Wait;
 
 // Whether the arrivals that a receipt of this site shows are a prefix of the arrivals. If
@@ -140,7 +139,7 @@ fn first_untold_of(
     first_untold(&mut marks[..len], receipts, number)
 }
 
-impl<J: Site, R: Wait + Drop> Held<J, R> {
+impl<J: Site, R: Wait + Drop> HeldArrivals<J, R> {
     // Why the desk cannot be closed with these receipts, or none if it can.
     pub(crate) fn untold(&mut self, receipts: &[Receipt]) -> Option<DeskFault>
         requires { AreOurs J.book J.number receipts.now }

@@ -9,13 +9,11 @@ ghost use Rattle.sct_desk.specs.Passes.{IsReceipt, before, site_with};
 ghost use Rattle.sct_desk.specs.Tilings.{AreOurs, FailsToClose, Tiles};
 
 use crate::fault::DeskFault;
-use crate::held::Held;
+use crate::held::{HeldArrivals, Site};
 use crate::receipt::Receipt;
-use crate::site::Site;
 use sct_delta::{Delta, DeltaFault, Vector};
-use sct_history::History;
 use sct_message::Message;
-use sct_site::{Accepted, SiteCore, Took};
+use sct_site::{Accepted, History, SiteCore, Took};
 use std::alloc::Global;
 use std::sync::{Arc, Mutex, Wait};
 
@@ -25,7 +23,7 @@ use std::sync::{Arc, Mutex, Wait};
 #[derive(Drop)]
 pub struct Desk<J: Site, R: Wait + Drop> {
     pub(crate) history: History,
-    pub(crate) lock: Mutex<Held<J, R>>,
+    pub(crate) lock: Mutex<HeldArrivals<J, R>>,
     ghost book_is: { history ≡ J.book },
 }
 

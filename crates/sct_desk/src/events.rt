@@ -10,13 +10,11 @@ ghost use Rattle.sct_desk.specs.Locked.{Fails, IsDeltaRefusal, IsWant, Publishes
 ghost use Rattle.sct_desk.specs.Passes.{before, site_with};
 
 use crate::fault::DeskFault;
-use crate::held::Held;
+use crate::held::{HeldArrivals, Site};
 use crate::receipt::Receipt;
-use crate::site::Site;
 use sct_delta::{Delta, DeltaFault, Vector};
-use sct_history::History;
 use sct_message::Message;
-use sct_site::{Accepted, SiteCore, Took};
+use sct_site::{Accepted, History, SiteCore, Took};
 use std::alloc::{AllocError, Global};
 use std::sync::{Arc, Wait};
 
@@ -78,7 +76,7 @@ fn cut_from(core: &SiteCore, vector: &Vector) -> Option<Delta>
     core.cut(vector).ok()
 }
 
-impl<J: Site, R: Wait + Drop> Held<J, R> {
+impl<J: Site, R: Wait + Drop> HeldArrivals<J, R> {
     // Takes a message and publishes the pending arrivals.
     pub(crate) fn take(
         &mut self,

@@ -12,7 +12,7 @@ pub enum DeskFault {
     #[error("no such site")]
     BadSite,
     /// 50: out of memory. The arrivals that the desk holds and shows are unchanged.
-    #[error("memory is wanting")]
+    #[error("out of memory")]
     Memory,
     /// 51: out of memory for the publication. The effect of the call stays, and the arrivals from this position on are
     /// not shown yet. The next publication that succeeds shows them.
@@ -25,7 +25,7 @@ pub enum DeskFault {
     #[error("arrivals are pending from position {from} on")]
     Pending { from: u64 },
     /// 54: this position is not covered by exactly one of the receipts, and is the first such position.
-    #[error("position {position} is not told by exactly one receipt")]
+    #[error("position {position} is not covered by exactly one receipt")]
     Untold { position: u64 },
     /// 55: the desk was closed or dropped.
     #[error("the desk is closed")]

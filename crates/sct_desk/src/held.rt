@@ -1,18 +1,38 @@
-//! The state under a desk's lock.
+//! The state under a desk's lock, and the identity of the site that it is of.
 
 ghost use Rattle.std.specs.Prelude.{◌≡◌};
 ghost use Rattle.sct_desk.specs.Passes.{site_with};
 
-use crate::rule::ShownWriter;
-use crate::site::Site;
-use sct_history::Track;
-use sct_site::SiteCore;
-use std::marker::{Model, PhantomData};
+use crate::shown::ShownWriter;
+use sct_site::{SiteCore, Track};
+use std::marker::{Brand, Model, PhantomData};
 use std::sync::Wait;
+
+/// The site of a desk: its history, its number and its group. Each call of a program that opens a desk picks its own,
+/// so that the state under a lock is known to be of this site.
+pub trait Site {
+    ghost use Rattle.std.specs.Prelude.{ℕ};
+    ghost use Rattle.logbook.specs.Pages.{Book};
+
+    ghost book: { Book };
+
+    ghost number: { ℕ };
+
+    ghost group: { ℕ };
+}
+
+/// The site that a call picks.
+impl Site for Brand {
+    ghost book = { record { number = 0; log_name = 0; cells_name = 0 } };
+
+    ghost number = { 1 };
+
+    ghost group = { 1 };
+}
 
 /// The core of a site, and the writer of its published view. The published arrivals, followed by
 /// the pending ones, are the core's arrivals.
-pub struct Held<J: Site, R: Wait + Drop> {
+pub struct HeldArrivals<J: Site, R: Wait + Drop> {
     pub(crate) core: SiteCore,
     pub(crate) writer: ShownWriter,
     /// The beginning of the core's arrivals that the history has.
@@ -25,7 +45,7 @@ pub struct Held<J: Site, R: Wait + Drop> {
     pub(crate) of: PhantomData<J>,
 }
 
-impl<J: Site, R: Wait + Drop> Model for Held<J, R> {
+impl<J: Site, R: Wait + Drop> Model for HeldArrivals<J, R> {
     ghost use Rattle.std.specs.Prelude.{drop};
     ghost use Rattle.sct_desk.specs.HeldOk.{IsHeld};
     ghost use Rattle.sct_desk.specs.Locked.{Locked};
@@ -38,7 +58,7 @@ impl<J: Site, R: Wait + Drop> Model for Held<J, R> {
         (drop h.writer.behind h.writer.log.items) h.handed h.marks.items };
 }
 
-impl<J: Site, R: Wait + Drop> Drop for Held<J, R> {
+impl<J: Site, R: Wait + Drop> Drop for HeldArrivals<J, R> {
     fn drop(self) {
         let Self {
             core: _core,
@@ -53,7 +73,7 @@ impl<J: Site, R: Wait + Drop> Drop for Held<J, R> {
     }
 }
 
-impl<J: Site, R: Wait + Drop> Held<J, R> {
+impl<J: Site, R: Wait + Drop> HeldArrivals<J, R> {
     // Ends the publication and returns the core.
     pub(crate) fn end(self) -> SiteCore
         ensures { result ≡ site_with J.number J.group self.core.arrivals }

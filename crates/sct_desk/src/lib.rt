@@ -13,12 +13,10 @@ mod publishing;
 mod query;
 mod question;
 mod receipt;
-mod rule;
 mod shown;
-mod site;
 
 pub use desk::{Desk, NotClosed};
 pub use fault::DeskFault;
+pub use held::Site;
 pub use query::{Answer, Query};
 pub use receipt::Receipt;
-pub use site::Site;

@@ -10,13 +10,10 @@ ghost use Rattle.sct_desk.specs.Rules.{view_of};
 
 use crate::desk::Desk;
 use crate::fault::DeskFault;
-use crate::held::Held;
+use crate::held::{HeldArrivals, Site};
 use crate::query::Query;
-use crate::rule::{ShownWriter, ShowsArrivals, WriterKnowledge};
-use crate::shown::Shown;
-use crate::site::Site;
-use sct_history::{History, Track};
-use sct_site::SiteCore;
+use crate::shown::{Shown, ShownWriter, ShowsArrivals, WriterKnowledge};
+use sct_site::{History, SiteCore, Track};
 use sct_view::View;
 use std::alloc::Global;
 use std::marker::PhantomData;
@@ -155,7 +152,7 @@ impl<J: Site, R: Wait + Drop> Desk<J, R> {
                 return Err(refusal);
             }
         };
-        let held = Held {
+        let held = HeldArrivals {
             core,
             writer,
             track,

@@ -9,14 +9,12 @@ ghost use Rattle.sct_desk.specs.Passes.{IsReceipt};
 ghost use Rattle.sct_desk.specs.Rules.{GoesOn, handed_over};
 
 use crate::fault::DeskFault;
-use crate::held::Held;
+use crate::held::{HeldArrivals, Site};
 use crate::receipt::Receipt;
-use crate::rule::{ShownWriter, ShowsArrivals};
-use crate::shown::Batch;
-use crate::site::Site;
+use crate::shown::{ShownWriter, ShowsArrivals, ViewUpdate};
 use core::mem::replace_with;
 use sct_delta::{Entry, messages_in};
-use sct_history::{History, Track};
+use sct_site::{History, Track};
 use std::alloc::{AllocError, Global};
 use std::sync::Wait;
 
@@ -61,11 +59,11 @@ fn hand_over(
         ≡ drop writer.old.behind writer.old.log.items) }
 {
     let messages = messages_in(alloc, &arrivals[handed..])?;
-    let batch = Batch {
+    let update = ViewUpdate {
         messages,
         track: track.again(),
     };
-    match writer.append(batch) {
+    match writer.append(update) {
         Ok(()) => Ok(()),
         Err(_) => Err(AllocError),
     }
@@ -121,7 +119,7 @@ fn receipt_of(site: u16, from: u64, track: &Track, news: u64) -> Receipt
     }
 }
 
-impl<J: Site, R: Wait + Drop> Held<J, R> {
+impl<J: Site, R: Wait + Drop> HeldArrivals<J, R> {
     // The error of a publication that is out of memory: 51 if arrivals are pending, else 50.
     fn unpublished(&self) -> DeskFault
         ensures { result ≡ unpublished self.now }

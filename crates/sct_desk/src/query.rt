@@ -2,15 +2,15 @@
 
 ghost use Rattle.std.specs.Prelude.{◌≡◌, ◌≢◌, ◌⊎◌, IfOk, IfErr};
 ghost use Rattle.sct_delta.specs.Entries.{IsArrivals, messages_of};
-ghost use Rattle.sct_history.specs.Sights.{IsLonger};
+ghost use Rattle.sct_site.specs.Sights.{IsLonger};
 ghost use Rattle.sct_desk.specs.Answering.{AnswersFromView};
 ghost use Rattle.sct_desk.specs.declared.fault.DeskFault.TheVariants as fault;
 
 use crate::fault::DeskFault;
-use crate::question::Question;
+use crate::question::ViewQuestion;
 use crate::receipt::Receipt;
-use crate::rule::{ShownReader, ShowsArrivals};
-use sct_history::Track;
+use crate::shown::{ShownReader, ShowsArrivals};
+use sct_site::Track;
 use std::marker::Model;
 
 /// An answer, and the number of the site's arrivals that it is based on.
@@ -60,7 +60,7 @@ impl Query {
     }
 
     /// Answers a question from the published view. The query is returned, with what it has seen by then.
-    pub(crate) fn answer<Q: Question>(
+    pub(crate) fn answer<Q: ViewQuestion>(
         self,
         question: &Q,
     ) -> (Query, Result<Answer<Q::Value>, DeskFault>)
@@ -98,13 +98,13 @@ impl Query {
         }
         let seen = reading.get().track.again();
         let front = seen.len();
-        let told = question.ask(&reading.get().view);
+        let asked = question.ask(&reading.get().view);
         let query = Query {
             site,
             reader: reading.leave(),
             track: seen,
         };
-        match told {
+        match asked {
             Ok(value) => (query, Ok(Answer { value, front })),
             Err(_) => (query, Err(DeskFault::Memory)),
         }

@@ -11,7 +11,7 @@ use sct_view::{Totals, View};
 use std::alloc::{AllocError, Global};
 
 /// A question that each set of messages answers.
-pub(crate) trait Question {
+pub(crate) trait ViewQuestion {
     ghost use Rattle.sct_message.specs.Sets.{MessageSet};
 
     type Value;
@@ -34,7 +34,7 @@ pub(crate) struct StatusOf<'a> {
     pub(crate) transfer: &'a TransferKey,
 }
 
-impl Question for StatusOf<'_> {
+impl ViewQuestion for StatusOf<'_> {
     ghost use Rattle.sct_case.specs.Statuses.{as_standing};
     ghost use Rattle.sct_view.specs.Answers.{status_of};
 
@@ -66,7 +66,7 @@ pub(crate) struct FindingsOf<'a> {
     pub(crate) transfer: &'a TransferKey,
 }
 
-impl Question for FindingsOf<'_> {
+impl ViewQuestion for FindingsOf<'_> {
     ghost use Rattle.sct_view.specs.Answers.{found_on};
 
     type Value = Vec<Finding>;
@@ -87,7 +87,7 @@ pub(crate) struct RecallOf<'a> {
     pub(crate) recall: &'a RecallKey,
 }
 
-impl Question for RecallOf<'_> {
+impl ViewQuestion for RecallOf<'_> {
     ghost use Rattle.sct_view.specs.Answers.{recall_of};
 
     type Value = RecallStatus;
@@ -107,7 +107,7 @@ pub(crate) struct TotalsOf<'a> {
     pub(crate) bank: &'a Bic,
 }
 
-impl Question for TotalsOf<'_> {
+impl ViewQuestion for TotalsOf<'_> {
     ghost use Rattle.sct_view.specs.Totals.{totals_of};
 
     type Value = Totals;

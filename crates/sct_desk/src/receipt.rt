@@ -2,7 +2,7 @@
 
 ghost use Rattle.std.specs.Prelude.{◌≡◌};
 
-use sct_history::Track;
+use sct_site::Track;
 use std::marker::Model;
 
 /// A desk's receipt of a call. It says that the call published `count` of the site's arrivals, from position `from` on,

@@ -5,7 +5,7 @@ use Rattle.sct_site.specs.declared.answers.Took.TheVariants as took
 use Rattle.sct_site.specs.declared.answers.Accepted.{Accepted}
 use Rattle.sct_embed.specs.Faults.{embed_fault_number, embed_fault_place}
 use Rattle.sct_embed.specs.declared.faults.EmbedFault.{EmbedFault}
-use Rattle.sct_embed.specs.declared.outcomes.Outcome.{Outcome}
+use Rattle.sct_embed.specs.declared.outcomes.CallOutcome.{CallOutcome}
 use Rattle.sct_embed.specs.declared.outcomes.TakeOutcome.{TakeOutcome}
 use Rattle.sct_embed.specs.declared.outcomes.LinesOutcome.{LinesOutcome}
 use Rattle.sct_embed.specs.declared.outcomes.AcceptOutcome.{AcceptOutcome}
@@ -13,7 +13,7 @@ use Rattle.sct_embed.specs.declared.taking.TakenLines.{TakenLines}
 
 -- ---- a refusal: the number of the fault and its place, and nothing else. `reserved` is 0 in each result
 
-abbrev pub refused_as : EmbedFault → Outcome
+abbrev pub refused_as : EmbedFault → CallOutcome
 refused_as reason = record { ok = false; code = embed_fault_number reason; place = embed_fault_place reason; length = 0; reserved = 0 }
 
 abbrev pub refused_take : EmbedFault → TakeOutcome
@@ -40,7 +40,7 @@ refused_accept reason =
 -- ---- what a call returned, as numbers
 
 -- a call that makes an answer of this length
-abbrev pub done_as : Result Unit EmbedFault → ℕ → Outcome
+abbrev pub done_as : Result Unit EmbedFault → ℕ → CallOutcome
 done_as (Ok done) length = record { ok = true; code = 0; place = 0; length = length; reserved = 0 }
 done_as (Err reason) length = refused_as reason
 

@@ -19,7 +19,7 @@ use Rattle.sct_embed.specs.Taking.{ArePartlyTaken, AreTaken}
 use Rattle.sct_embed.specs.declared.faults.EmbedFault.{EmbedFault}
 use Rattle.sct_embed.specs.declared.faults.EmbedFault.TheVariants as fault
 use Rattle.sct_embed.specs.declared.kept.KeptSite.{KeptSite}
-use Rattle.sct_embed.specs.declared.outcomes.Outcome.{Outcome}
+use Rattle.sct_embed.specs.declared.outcomes.CallOutcome.{CallOutcome}
 use Rattle.sct_embed.specs.declared.outcomes.TakeOutcome.{TakeOutcome}
 use Rattle.sct_embed.specs.declared.outcomes.LinesOutcome.{LinesOutcome}
 use Rattle.sct_embed.specs.declared.outcomes.AcceptOutcome.{AcceptOutcome}
@@ -43,7 +43,7 @@ IsCalled refused Does (Some kept) outcome after = HasSite (Does kept outcome) af
 
 -- A place that has a site is refused with 71, and keeps it. An empty place has a site with this property afterwards, whose
 -- answer has the length that is returned, and nothing was refused yet. Or it is refused for this reason, and stays empty.
-abbrev pub IsPlaceFilled : (Embedding → Type 0) → (EmbedFault → Type 0) → Option KeptSite → Outcome → Option KeptSite → Type 0
+abbrev pub IsPlaceFilled : (Embedding → Type 0) → (EmbedFault → Type 0) → Option KeptSite → CallOutcome → Option KeptSite → Type 0
 IsPlaceFilled Opened Refused (Some kept) outcome after = (outcome ≡ refused_as fault.Full) × (after ≡ Some kept)
 IsPlaceFilled Opened Refused None outcome (Some kept) =
     (outcome ≡ done_as (Ok tt) (length kept.site.answer)) × (Opened kept.site × (kept.why ≡ None))
@@ -71,14 +71,14 @@ IsRestored number group journal text site =
       watched = None;
     })
 
-abbrev pub Opens : ℕ → ℕ → Option KeptSite → Outcome → Option KeptSite → Type 0
+abbrev pub Opens : ℕ → ℕ → Option KeptSite → CallOutcome → Option KeptSite → Type 0
 Opens number group = IsPlaceFilled (IsOpened number group) (NoSite number group)
 
-abbrev pub Restores : ℕ → ℕ → List ℕ → List ℕ → Option KeptSite → Outcome → Option KeptSite → Type 0
+abbrev pub Restores : ℕ → ℕ → List ℕ → List ℕ → Option KeptSite → CallOutcome → Option KeptSite → Type 0
 Restores number group journal text = IsPlaceFilled (IsRestored number group journal text) (NoSite number group)
 
 -- A place gets a site that was opened; or it is out of memory for the site, and is as it was.
-abbrev pub IsFilledWith : Result Embedding EmbedFault → Option KeptSite → Outcome → Option KeptSite → Type 0
+abbrev pub IsFilledWith : Result Embedding EmbedFault → Option KeptSite → CallOutcome → Option KeptSite → Type 0
 IsFilledWith (Err reason) before outcome after = (outcome ≡ refused_as reason) × (after ≡ before)
 IsFilledWith (Ok site) before outcome after =
     ((outcome ≡ done_as (Ok tt) (length site.answer)) × (after ≡ Some (record { site = site; why = None })))
@@ -123,7 +123,7 @@ pub record TakesLines (text : List ℕ) (before : KeptSite) (outcome : LinesOutc
 -- ---- questions. After each the place keeps why it was refused, or nothing
 
 -- The answer is the answer to the question. Or the question is refused, and the site is as it was.
-pub record Asks (question : Question) (before : KeptSite) (outcome : Outcome) (later : KeptSite) : Type 0 where
+pub record Asks (question : Question) (before : KeptSite) (outcome : CallOutcome) (later : KeptSite) : Type 0 where
   pub done : Result Unit EmbedFault
   pub told : outcome ≡ done_as done (length later.site.answer)
   pub why : later.why ≡ result_err done
@@ -133,7 +133,7 @@ pub record Asks (question : Question) (before : KeptSite) (outcome : Outcome) (l
   pub unchanged : OnErr done (later.site ≡ before.site)
 
 -- The site is as it was, whether what is new was evaluated or the call is out of memory.
-pub record Evaluates (before : KeptSite) (outcome : Outcome) (later : KeptSite) : Type 0 where
+pub record Evaluates (before : KeptSite) (outcome : CallOutcome) (later : KeptSite) : Type 0 where
   pub done : Result Unit EmbedFault
   pub told : outcome ≡ done_as done (length before.site.answer)
   pub why : later.why ≡ result_err done
@@ -143,7 +143,7 @@ pub record Evaluates (before : KeptSite) (outcome : Outcome) (later : KeptSite) 
 -- ---- what is copied out; the place is as it was
 
 -- The counts of origin 1, 2, .. are written, unless more than 1024 are asked for.
-pub record Counts (before after : List ℕ) (kept : KeptSite) (outcome : Outcome) (later : KeptSite) : Type 0 where
+pub record Counts (before after : List ℕ) (kept : KeptSite) (outcome : CallOutcome) (later : KeptSite) : Type 0 where
   pub done : Result Unit EmbedFault
   pub told : outcome ≡ done_as done 0
   pub counts : OnOk done (AreCounts kept.site.core.arrivals after)
@@ -158,7 +158,7 @@ pub record IsCopied (text before after : List ℕ) : Type 0 where
   pub unwritten : length before < length text → after ≡ before
 
 -- The answer is copied if it fits. Its length is returned.
-pub record Copies (before after : List ℕ) (kept : KeptSite) (outcome : Outcome) (later : KeptSite) : Type 0 where
+pub record Copies (before after : List ℕ) (kept : KeptSite) (outcome : CallOutcome) (later : KeptSite) : Type 0 where
   pub told : outcome ≡ done_as (Ok tt) (length kept.site.answer)
   pub copied : IsCopied kept.site.answer before after
   pub same : later ≡ kept
@@ -168,14 +168,14 @@ abbrev pub part_of : ℕ → ℕ → List ℕ → List ℕ
 part_of from room text = take room (drop from text)
 
 -- A part of the answer is copied. Its length is returned.
-pub record CopiesPart (from : ℕ) (before after : List ℕ) (kept : KeptSite) (outcome : Outcome) (later : KeptSite) : Type 0 where
+pub record CopiesPart (from : ℕ) (before after : List ℕ) (kept : KeptSite) (outcome : CallOutcome) (later : KeptSite) : Type 0 where
   pub told : outcome ≡ done_as (Ok tt) (length (part_of from (length before) kept.site.answer))
   pub copied : IsCopied (part_of from (length before) kept.site.answer) before after
   pub same : later ≡ kept
 
 -- The text of the reason that the place keeps is copied if it fits. Its length is returned. Or the call is out of memory, and
 -- nothing is written.
-pub record CopiesReason (before after : List ℕ) (kept : KeptSite) (outcome : Outcome) (later : KeptSite) : Type 0 where
+pub record CopiesReason (before after : List ℕ) (kept : KeptSite) (outcome : CallOutcome) (later : KeptSite) : Type 0 where
   pub done : Result Unit EmbedFault
   pub told : outcome ≡ done_as done (length (why_text kept.why))
   pub copied : OnOk done (IsCopied (why_text kept.why) before after)
@@ -186,7 +186,7 @@ pub record CopiesReason (before after : List ℕ) (kept : KeptSite) (outcome : O
 -- ---- the answer ends
 
 -- The answer is empty afterwards, and all else is as it was.
-pub record EndsAnswer (before : KeptSite) (outcome : Outcome) (later : KeptSite) : Type 0 where
+pub record EndsAnswer (before : KeptSite) (outcome : CallOutcome) (later : KeptSite) : Type 0 where
   pub told : outcome ≡ done_as (Ok tt) 0
   pub why : later.why ≡ before.why
   pub site : later.site ≡ record { core = before.site.core; answer = []; watched = before.site.watched }

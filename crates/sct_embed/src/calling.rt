@@ -4,39 +4,39 @@ ghost use Rattle.std.specs.Prelude.{◌≡◌, None, false};
 ghost use Rattle.sct_embed.specs.Outcomes.{refused_accept, refused_as, refused_lines, refused_take};
 ghost use Rattle.sct_embed.specs.Places.{Accepts, Counts, IsCalled, IsFilledWith, Opens, Restores, Takes, TakesLines};
 
+use crate::embedded_site::EmbeddedSite;
 use crate::faults::EmbedFault;
 use crate::kept::KeptSite;
-use crate::outcomes::{AcceptOutcome, LinesOutcome, Outcome, TakeOutcome};
+use crate::outcomes::{AcceptOutcome, CallOutcome, LinesOutcome, TakeOutcome};
 use crate::place::Place;
-use crate::site::EmbeddedSite;
 use std::alloc::Global;
 
 impl Place {
     // Puts a site that was opened into the place.
-    fn fill(&mut self, alloc: Global, opened: Result<EmbeddedSite, EmbedFault>) -> Outcome
+    fn fill(&mut self, alloc: Global, opened: Result<EmbeddedSite, EmbedFault>) -> CallOutcome
         ensures { IsFilledWith opened self.old.handle.held result self.new.handle.held }
     {
         let site = match opened {
             Ok(site) => site,
-            Err(fault) => return Outcome::refused(&fault),
+            Err(fault) => return CallOutcome::refused(&fault),
         };
         let length = site.answer().len();
         match Box::new(alloc, KeptSite { site, why: None }) {
             Ok(kept) => {
                 self.put_in(kept);
-                Outcome::done(length)
+                CallOutcome::done(length)
             }
-            Err(_) => Outcome::refused(&EmbedFault::Memory),
+            Err(_) => CallOutcome::refused(&EmbedFault::Memory),
         }
     }
 
     /// Opens the site `number` of a group of `group` sites in an empty place. It holds nothing, and its answer is empty.
     /// Refusals: `BadSite` (44), `Memory` (65), `Full` (71).
-    pub fn open(&mut self, alloc: Global, number: u16, group: u16) -> Outcome
+    pub fn open(&mut self, alloc: Global, number: u16, group: u16) -> CallOutcome
         ensures { Opens number group self.old.handle.held result self.new.handle.held }
     {
         if self.is_full() {
-            return Outcome::refused(&EmbedFault::Full);
+            return CallOutcome::refused(&EmbedFault::Full);
         }
         self.fill(alloc, EmbeddedSite::open(alloc, number, group))
     }
@@ -50,11 +50,11 @@ impl Place {
         group: u16,
         journal: &[u8],
         text: &[u8],
-    ) -> Outcome
+    ) -> CallOutcome
         ensures { Restores number group journal.now text.now self.old.handle.held result self.new.handle.held }
     {
         if self.is_full() {
-            return Outcome::refused(&EmbedFault::Full);
+            return CallOutcome::refused(&EmbedFault::Full);
         }
         self.fill(
             alloc,
@@ -114,13 +114,13 @@ impl Place {
 
     /// Writes how many entries of each origin the site holds, that of origin 1 first. At most 1024 are asked for.
     /// Refusals: `BadSite` (44), `Empty` (70).
-    pub fn counts(&mut self, _alloc: Global, out: &mut [u64]) -> Outcome
+    pub fn counts(&mut self, _alloc: Global, out: &mut [u64]) -> CallOutcome
         ensures called { IsCalled refused_as (Counts out.old out.new) self.old.handle.held result self.new.handle.held }
         ensures unwritten { result.ok ≡ false → out.new ≡ out.old }
     {
         let Some(kept) = self.kept_mut() else {
-            return Outcome::refused(&EmbedFault::Empty);
+            return CallOutcome::refused(&EmbedFault::Empty);
         };
-        Outcome::of(&kept.site.counts(out), 0)
+        CallOutcome::of(&kept.site.counts(out), 0)
     }
 }

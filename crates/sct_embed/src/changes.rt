@@ -1,6 +1,6 @@
 //! The transfers that changed since changes were asked for.
 
-ghost use Rattle.std.specs.Prelude.{◌≡◌, ◌++◌, IfErr, IfOk, OnOk, string_bytes};
+ghost use Rattle.std.specs.Prelude.{◌≡◌, ◌++◌, IfOk, OnOk, string_bytes};
 ghost use Rattle.std.specs.List.{flat_map};
 ghost use Rattle.sct_message.specs.Ascending.{ascending};
 ghost use Rattle.sct_message.specs.Order.{transfer_order};
@@ -9,9 +9,7 @@ ghost use Rattle.sct_set.specs.Contents.{contents_of};
 ghost use Rattle.sct_view.specs.Touched.{touched_in};
 ghost use Rattle.sct_embed.specs.Questions.{transfer_line};
 ghost use Rattle.sct_embed.specs.Showing.{IsLater, text_of_changes};
-ghost use Rattle.sct_embed.specs.declared.faults.EmbedFault.TheVariants as fault;
 
-use crate::faults::EmbedFault;
 use sct_message::{Message, TransferKey};
 use sct_view::View;
 use std::alloc::{AllocError, Global};
@@ -43,11 +41,10 @@ impl Watch {
         alloc: Global,
         view: &View,
         messages: &[Arc<Message>],
-    ) -> Result<Watch, EmbedFault>
+    ) -> Result<Watch, AllocError>
         ensures asked { IfOk result (λ watch. watch.asked ≡ self.now.asked) }
         ensures changed { IfOk result (λ watch. watch.changed.items ≡ ascending transfer_order
             (self.now.changed.items ++ touched_in view.now (contents_of (messages_in messages.now)))) }
-        ensures err { IfErr result (λ e. e ≡ fault.Memory) }
     {
         let mut changed = Vec::new(alloc);
         push_copies(&mut changed, &self.changed)?;
@@ -67,9 +64,8 @@ pub(crate) fn watch_after(
     alloc: Global,
     view: &View,
     messages: &[Arc<Message>],
-) -> Result<Option<Watch>, EmbedFault>
-    ensures later { IfOk result (IsLater watch.now view.now (contents_of (messages_in messages.now))) }
-    ensures err { IfErr result (λ e. e ≡ fault.Memory) }
+) -> Result<Option<Watch>, AllocError>
+    ensures { IfOk result (IsLater watch.now view.now (contents_of (messages_in messages.now))) }
 {
     match watch {
         Some(watch) => Ok(Some(watch.after(alloc, view, messages)?)),
@@ -77,10 +73,9 @@ pub(crate) fn watch_after(
     }
 }
 
-/// The text of what changed: a line for each transfer. Error: `Memory` (65).
-pub(crate) fn text_of_changes(alloc: Global, watch: &Option<Watch>) -> Result<Vec<u8>, EmbedFault>
-    ensures text { IfOk result (λ text. text.items ≡ text_of_changes watch.now) }
-    ensures err { IfErr result (λ e. e ≡ fault.Memory) }
+/// The text of what changed: a line for each transfer.
+pub(crate) fn text_of_changes(alloc: Global, watch: &Option<Watch>) -> Result<Vec<u8>, AllocError>
+    ensures { IfOk result (λ text. text.items ≡ text_of_changes watch.now) }
 {
     let mut text = String::new(alloc);
     if let Some(watch) = watch {

@@ -4,7 +4,7 @@ ghost use Rattle.std.specs.Prelude.{◌≡◌, length};
 ghost use Rattle.sct_embed.specs.Codes.{code_name, code_text};
 ghost use Rattle.sct_embed.specs.Places.{IsCopied};
 
-use crate::copying::copy_text;
+use crate::asking::copy_text;
 
 // The name of a number, or the empty text.
 #[tactic(auto, unfolding(crate::specs::Codes::code_name))]

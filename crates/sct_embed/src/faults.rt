@@ -4,12 +4,10 @@ ghost use Rattle.std.specs.Prelude.{◌≡◌};
 ghost use Rattle.sct_embed.specs.Faults.{embed_fault_number, embed_fault_of_delta, embed_fault_of_json, embed_fault_of_list, embed_fault_place};
 ghost use Rattle.sct_embed.specs.declared.faults.EmbedFault.TheVariants as fault;
 
-use sct_case::CaseFault;
 use sct_delta::DeltaFault;
 use sct_json::JsonFault;
 use sct_reconcile::ReconcileFault;
-use sct_set::SetFault;
-use std::alloc::{AllocError, AllocFailed};
+use std::alloc::AllocError;
 use thiserror::Error;
 
 /// Why a call is refused.
@@ -78,30 +76,6 @@ impl From<AllocError> for EmbedFault {
     ghost from_gives = { λ _ e. e ≡ fault.Memory };
 
     fn from(_error: AllocError) -> EmbedFault {
-        EmbedFault::Memory
-    }
-}
-
-impl<T: Drop> From<AllocFailed<T>> for EmbedFault {
-    ghost from_gives = { λ _ e. e ≡ fault.Memory };
-
-    fn from(_error: AllocFailed<T>) -> EmbedFault {
-        EmbedFault::Memory
-    }
-}
-
-impl From<CaseFault> for EmbedFault {
-    ghost from_gives = { λ _ e. e ≡ fault.Memory };
-
-    fn from(_fault: CaseFault) -> EmbedFault {
-        EmbedFault::Memory
-    }
-}
-
-impl From<SetFault> for EmbedFault {
-    ghost from_gives = { λ _ e. e ≡ fault.Memory };
-
-    fn from(_fault: SetFault) -> EmbedFault {
         EmbedFault::Memory
     }
 }

@@ -1,12 +1,11 @@
 //! A site as a place keeps it, with the reason why its last call was refused.
 
-ghost use Rattle.std.specs.Prelude.{◌≡◌, ◌++◌, IfErr, IfOk, string_bytes};
+ghost use Rattle.std.specs.Prelude.{◌≡◌, ◌++◌, IfOk, string_bytes};
 ghost use Rattle.std.specs.Result.{result_err};
 ghost use Rattle.sct_embed.specs.Reasons.{fault_text, why_text};
-ghost use Rattle.sct_embed.specs.declared.faults.EmbedFault.TheVariants as fault;
 
+use crate::embedded_site::EmbeddedSite;
 use crate::faults::EmbedFault;
-use crate::site::EmbeddedSite;
 use sct_exchange::push_refusal;
 use sct_lines::push_json_fault;
 use std::alloc::{AllocError, Global};
@@ -45,11 +44,10 @@ impl KeptSite {
         self.why = done.err();
     }
 
-    /// The text of the reason, which is empty if there is none. Error: `Memory` (65).
+    /// The text of the reason, which is empty if there is none.
     #[tactic(auto, unfolding(crate::specs::Reasons::why_text))]
-    pub(crate) fn why_text(&self, alloc: Global) -> Result<String, EmbedFault>
-        ensures text { IfOk result (λ text. string_bytes text ≡ why_text self.now.why) }
-        ensures err { IfErr result (λ e. e ≡ fault.Memory) }
+    pub(crate) fn why_text(&self, alloc: Global) -> Result<String, AllocError>
+        ensures { IfOk result (λ text. string_bytes text ≡ why_text self.now.why) }
     {
         let mut text = String::new(alloc);
         if let Some(reason) = &self.why {

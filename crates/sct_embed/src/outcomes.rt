@@ -10,7 +10,7 @@ use sct_site::{Accepted, Took};
 /// What a call came to. `length` is the length of the answer in bytes, if the call makes or copies one.
 #[repr(C)]
 #[derive(Clone, Copy, Debug, PartialEq, Eq)]
-pub struct Outcome {
+pub struct CallOutcome {
     /// Whether the call did what it says.
     pub ok: bool,
     /// If not, the number of the fault, else 0.
@@ -79,12 +79,12 @@ pub struct AcceptOutcome {
     pub reserved: u64,
 }
 
-impl Outcome {
+impl CallOutcome {
     /// The call did what it says, and the answer has this length.
-    pub(crate) fn done(length: usize) -> Outcome
+    pub(crate) fn done(length: usize) -> CallOutcome
         ensures { result ≡ record { ok = true; code = 0; place = 0; length = length; reserved = 0 } }
     {
-        Outcome {
+        CallOutcome {
             ok: true,
             code: 0,
             place: 0,
@@ -94,10 +94,10 @@ impl Outcome {
     }
 
     /// The call is refused.
-    pub(crate) fn refused(fault: &EmbedFault) -> Outcome
+    pub(crate) fn refused(fault: &EmbedFault) -> CallOutcome
         ensures { result ≡ refused_as fault.now }
     {
-        Outcome {
+        CallOutcome {
             ok: false,
             code: fault.number(),
             place: fault.place(),
@@ -106,12 +106,12 @@ impl Outcome {
         }
     }
 
-    pub(crate) fn of(done: &Result<(), EmbedFault>, length: usize) -> Outcome
+    pub(crate) fn of(done: &Result<(), EmbedFault>, length: usize) -> CallOutcome
         ensures { result ≡ done_as done.now length }
     {
         match done {
-            Ok(()) => Outcome::done(length),
-            Err(fault) => Outcome::refused(fault),
+            Ok(()) => CallOutcome::done(length),
+            Err(fault) => CallOutcome::refused(fault),
         }
     }
 }

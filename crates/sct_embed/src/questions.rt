@@ -11,20 +11,18 @@ ghost use Rattle.sct_embed.specs.Calls.{cut_above_answer, cut_answer};
 ghost use Rattle.sct_embed.specs.Questions.{Answers, bank_answer, changes_since, closed_answer, contradictions_text_of, kept_answer, messages_answer, report_answer, transfer_answer};
 ghost use Rattle.sct_embed.specs.Reading.{reading_text_of};
 
-use crate::arguments::transfer_of;
+use crate::arguments::{transfer_of, vector_of};
 use crate::changes::{Watch, text_of_changes};
-use crate::closing::text_of_messages;
-use crate::counts::vector_of;
-use crate::entries::{text_of_entries, text_of_own_entries};
+use crate::embedded_site::EmbeddedSite;
 use crate::faults::EmbedFault;
-use crate::identities::push_identities;
 use crate::question::Question;
 use crate::reading::read_text;
-use crate::site::EmbeddedSite;
+use crate::texts::{push_identities, text_of_entries, text_of_messages, text_of_own_entries};
 use sct_delta::read_vector;
 use sct_exchange::{write_cut, write_held};
 use sct_keep::split;
 use sct_reconcile::{List, bank_of, day_of, reconcile_alone};
+use std::alloc::AllocError;
 
 impl EmbeddedSite {
     /// Asks a question. The text becomes the answer. Errors: the refusals of the question, and `Memory` (65).
@@ -35,28 +33,28 @@ impl EmbeddedSite {
         ensures unchanged { OnErr result (self.new ≡ self.old) }
     {
         match question {
-            Question::Archive => self.archive_text(),
-            Question::Status => self.status_text(),
-            Question::Totals => self.totals_text(),
-            Question::Contradictions => self.contradictions_text(),
-            Question::Vector => self.vector_text(),
+            Question::Archive => Ok(self.archive_text()?),
+            Question::Status => Ok(self.status_text()?),
+            Question::Totals => Ok(self.totals_text()?),
+            Question::Contradictions => Ok(self.contradictions_text()?),
+            Question::Vector => Ok(self.vector_text()?),
             Question::Cut(vector) => self.cut(vector),
             Question::CutAbove(counts) => self.cut_above(counts),
-            Question::Journal(above) => self.journal_text(above),
-            Question::Newest(count) => self.newest_text(count),
-            Question::Reading(text) => self.reading_text(text),
+            Question::Journal(above) => Ok(self.journal_text(above)?),
+            Question::Newest(count) => Ok(self.newest_text(count)?),
+            Question::Reading(text) => Ok(self.reading_text(text)?),
             Question::Transfer { bank, tx } => self.transfer_text(bank, tx),
             Question::Messages { bank, tx } => self.messages_text(bank, tx),
             Question::Bank(bank) => self.bank_totals(bank),
             Question::Report { bank, day, list } => self.report(bank, day, list),
             Question::Kept(day) => self.kept_text(day),
             Question::Closed(day) => self.closed_text(day),
-            Question::Changes => self.changes_text(),
+            Question::Changes => Ok(self.changes_text()?),
         }
     }
 
-    fn archive_text(&mut self) -> Result<(), EmbedFault>
-        ensures answer { Answers (Ok (archive_text_of (messages_of self.old.core.arrivals))) result self.new.answer }
+    fn archive_text(&mut self) -> Result<(), AllocError>
+        ensures answer { OnOk result (self.new.answer ≡ archive_text_of (messages_of self.old.core.arrivals)) }
         ensures core { self.new.core ≡ self.old.core }
         ensures watched { self.new.watched ≡ self.old.watched }
         ensures unchanged { OnErr result (self.new ≡ self.old) }
@@ -65,8 +63,8 @@ impl EmbeddedSite {
         Ok(())
     }
 
-    fn status_text(&mut self) -> Result<(), EmbedFault>
-        ensures answer { Answers (Ok (status_text_of (messages_of self.old.core.arrivals))) result self.new.answer }
+    fn status_text(&mut self) -> Result<(), AllocError>
+        ensures answer { OnOk result (self.new.answer ≡ status_text_of (messages_of self.old.core.arrivals)) }
         ensures core { self.new.core ≡ self.old.core }
         ensures watched { self.new.watched ≡ self.old.watched }
         ensures unchanged { OnErr result (self.new ≡ self.old) }
@@ -76,8 +74,8 @@ impl EmbeddedSite {
         Ok(())
     }
 
-    fn totals_text(&mut self) -> Result<(), EmbedFault>
-        ensures answer { Answers (Ok (totals_text_of (messages_of self.old.core.arrivals))) result self.new.answer }
+    fn totals_text(&mut self) -> Result<(), AllocError>
+        ensures answer { OnOk result (self.new.answer ≡ totals_text_of (messages_of self.old.core.arrivals)) }
         ensures core { self.new.core ≡ self.old.core }
         ensures watched { self.new.watched ≡ self.old.watched }
         ensures unchanged { OnErr result (self.new ≡ self.old) }
@@ -88,8 +86,8 @@ impl EmbeddedSite {
     }
 
     #[tactic(auto, unfolding(crate::specs::Questions::contradictions_text_of))]
-    fn contradictions_text(&mut self) -> Result<(), EmbedFault>
-        ensures answer { Answers (Ok (contradictions_text_of (messages_of self.old.core.arrivals))) result self.new.answer }
+    fn contradictions_text(&mut self) -> Result<(), AllocError>
+        ensures answer { OnOk result (self.new.answer ≡ contradictions_text_of (messages_of self.old.core.arrivals)) }
         ensures core { self.new.core ≡ self.old.core }
         ensures watched { self.new.watched ≡ self.old.watched }
         ensures unchanged { OnErr result (self.new ≡ self.old) }
@@ -101,8 +99,8 @@ impl EmbeddedSite {
         Ok(())
     }
 
-    fn vector_text(&mut self) -> Result<(), EmbedFault>
-        ensures answer { Answers (Ok (held_text self.old.core.arrivals)) result self.new.answer }
+    fn vector_text(&mut self) -> Result<(), AllocError>
+        ensures answer { OnOk result (self.new.answer ≡ held_text self.old.core.arrivals) }
         ensures core { self.new.core ≡ self.old.core }
         ensures watched { self.new.watched ≡ self.old.watched }
         ensures unchanged { OnErr result (self.new ≡ self.old) }
@@ -135,8 +133,8 @@ impl EmbeddedSite {
         Ok(())
     }
 
-    fn journal_text(&mut self, above: u64) -> Result<(), EmbedFault>
-        ensures answer { Answers (Ok (journal_text above self.old.core)) result self.new.answer }
+    fn journal_text(&mut self, above: u64) -> Result<(), AllocError>
+        ensures answer { OnOk result (self.new.answer ≡ journal_text above self.old.core) }
         ensures core { self.new.core ≡ self.old.core }
         ensures watched { self.new.watched ≡ self.old.watched }
         ensures unchanged { OnErr result (self.new ≡ self.old) }
@@ -146,8 +144,8 @@ impl EmbeddedSite {
         Ok(())
     }
 
-    fn newest_text(&mut self, count: u64) -> Result<(), EmbedFault>
-        ensures answer { Answers (Ok (newest_text count self.old.core.arrivals)) result self.new.answer }
+    fn newest_text(&mut self, count: u64) -> Result<(), AllocError>
+        ensures answer { OnOk result (self.new.answer ≡ newest_text count self.old.core.arrivals) }
         ensures core { self.new.core ≡ self.old.core }
         ensures watched { self.new.watched ≡ self.old.watched }
         ensures unchanged { OnErr result (self.new ≡ self.old) }
@@ -158,8 +156,8 @@ impl EmbeddedSite {
         Ok(())
     }
 
-    fn reading_text(&mut self, text: &[u8]) -> Result<(), EmbedFault>
-        ensures answer { Answers (Ok (reading_text_of text.now)) result self.new.answer }
+    fn reading_text(&mut self, text: &[u8]) -> Result<(), AllocError>
+        ensures answer { OnOk result (self.new.answer ≡ reading_text_of text.now) }
         ensures core { self.new.core ≡ self.old.core }
         ensures watched { self.new.watched ≡ self.old.watched }
         ensures unchanged { OnErr result (self.new ≡ self.old) }
@@ -176,7 +174,8 @@ impl EmbeddedSite {
     {
         let transfer = transfer_of(bank, tx)?;
         self.showing.show_all(self.alloc, self.core.arrivals())?;
-        self.answer = self.showing.view.transfer_text(&transfer)?;
+        let text = self.showing.view.transfer_text(&transfer);
+        self.answer = text.map_err(AllocError::from)?;
         Ok(())
     }
 
@@ -188,7 +187,8 @@ impl EmbeddedSite {
     {
         let transfer = transfer_of(bank, tx)?;
         self.showing.show_all(self.alloc, self.core.arrivals())?;
-        self.answer = self.showing.view.messages_text(&transfer)?;
+        let text = self.showing.view.messages_text(&transfer);
+        self.answer = text.map_err(AllocError::from)?;
         Ok(())
     }
 
@@ -202,7 +202,8 @@ impl EmbeddedSite {
             return Err(EmbedFault::BadArgument(1));
         };
         self.showing.show_all(self.alloc, self.core.arrivals())?;
-        self.answer = self.showing.view.totals_line(&bank)?;
+        let line = self.showing.view.totals_line(&bank);
+        self.answer = line.map_err(AllocError::from)?;
         Ok(())
     }
 
@@ -236,7 +237,8 @@ impl EmbeddedSite {
         };
         self.showing.show_all(self.alloc, self.core.arrivals())?;
         let messages = self.core.archive().messages();
-        let parts = split(self.alloc, &self.showing.view, &day, messages)?;
+        let found = split(self.alloc, &self.showing.view, &day, messages);
+        let parts = found.map_err(AllocError::from)?;
         self.answer = text_of_messages(self.alloc, &parts.kept)?;
         Ok(())
     }
@@ -252,13 +254,14 @@ impl EmbeddedSite {
         };
         self.showing.show_all(self.alloc, self.core.arrivals())?;
         let messages = self.core.archive().messages();
-        let parts = split(self.alloc, &self.showing.view, &day, messages)?;
+        let found = split(self.alloc, &self.showing.view, &day, messages);
+        let parts = found.map_err(AllocError::from)?;
         self.answer = text_of_messages(self.alloc, &parts.closed)?;
         Ok(())
     }
 
-    fn changes_text(&mut self) -> Result<(), EmbedFault>
-        ensures answer { Answers (Ok (changes_since self.old.watched self.old.core.arrivals)) result self.new.answer }
+    fn changes_text(&mut self) -> Result<(), AllocError>
+        ensures answer { OnOk result (self.new.answer ≡ changes_since self.old.watched self.old.core.arrivals) }
         ensures core { self.new.core ≡ self.old.core }
         ensures watched { OnOk result (self.new.watched ≡ Some (length self.old.core.arrivals)) }
         ensures unchanged { OnErr result (self.new ≡ self.old) }

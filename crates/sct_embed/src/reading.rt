@@ -5,7 +5,7 @@ ghost use Rattle.sct_json.specs.Reading.{message_in};
 ghost use Rattle.sct_lines.specs.Lines.{numbered_from, refusal_line};
 ghost use Rattle.sct_embed.specs.Reading.{read_as, reading_text_of, readings_of};
 
-use crate::entries::push_line;
+use crate::texts::push_line;
 use sct_json::{JsonFault, MessageReader};
 use sct_lines::{first_line, is_blank_line, push_json_fault};
 use std::alloc::{AllocError, Global};

@@ -1,20 +1,18 @@
 //! A view that follows the arrivals of a site.
 
 ghost use Rattle.std.specs.FinSet as set;
-ghost use Rattle.std.specs.Prelude.{◌≡◌, [], None, length, IfErr, OnErr, OnOk};
+ghost use Rattle.std.specs.Prelude.{◌≡◌, [], None, length, OnErr, OnOk};
 ghost use Rattle.sct_delta.specs.Entries.{messages_of};
 ghost use Rattle.sct_message.specs.Sets.{messages_in};
 ghost use Rattle.sct_set.specs.Contents.{contents_of};
 ghost use Rattle.sct_embed.specs.Showing.{IsShowing, watched_by};
-ghost use Rattle.sct_embed.specs.declared.faults.EmbedFault.TheVariants as fault;
 
 use crate::changes::{Watch, watch_after};
-use crate::faults::EmbedFault;
 use sct_delta::{Entry, messages_in};
 use sct_message::Message;
 use sct_set::Archive;
 use sct_view::View;
-use std::alloc::Global;
+use std::alloc::{AllocError, Global};
 use std::sync::Arc;
 
 /// A view of the first arrivals of a site, and what changed since its changes were asked for.
@@ -34,10 +32,9 @@ fn apply(
     view: &mut View,
     count: usize,
     messages: &[Arc<Message>],
-) -> Result<(), EmbedFault>
+) -> Result<(), AllocError>
     requires { count ≡ 0 → view.old ≡ set.empty }
     ensures ok { OnOk result (view.new ≡ set.union view.old (contents_of (messages_in messages.now))) }
-    ensures err { IfErr result (λ e. e ≡ fault.Memory) }
     ensures unchanged { OnErr result (view.new ≡ view.old) }
 {
     if count > 0 {
@@ -65,13 +62,12 @@ impl Showing {
 
     /// Has the view show all arrivals. Only those that it does not show yet are added. O(messages that are new, and those of
     /// the transfers that they touch).
-    pub(crate) fn show_all(&mut self, alloc: Global, arrivals: &[Entry]) -> Result<(), EmbedFault>
+    pub(crate) fn show_all(&mut self, alloc: Global, arrivals: &[Entry]) -> Result<(), AllocError>
         requires { IsShowing self.old arrivals.now }
         ensures shown { IsShowing self.new arrivals.now }
         ensures view { OnOk result (self.new.view ≡ messages_of arrivals.now) }
         ensures count { OnOk result (self.new.count ≡ length arrivals.now) }
         ensures watched { watched_by self.new.watch ≡ watched_by self.old.watch }
-        ensures err { IfErr result (λ e. e ≡ fault.Memory) }
     {
         if self.count == arrivals.len() {
             return Ok(());

@@ -5,7 +5,7 @@ use Rattle.sct_set.specs.Pieces.{joined}
 use Rattle.sct_streams.specs.Stream.{Input, Output, IsCutOff, IsWritten}
 use Rattle.sct_engine.specs.Engine.{job_text_if_told, job_text_of, refused_of, told_of, told_text_if_told, AreCutOff, IsAnswerOf, IsDone, IsInputOf, IsReadWhole}
 use Rattle.sct_engine.specs.Stream.{Streams}
-use Rattle.sct_engine.specs.declared.answers.Answer.{Answer}
+use Rattle.sct_engine.specs.declared.answers.ProgramAnswer.{ProgramAnswer}
 use Rattle.sct_engine.specs.declared.jobs.Job.{Job}
 
 -- ---- the bytes left, if they are known, are the input
@@ -32,22 +32,22 @@ cut_off_left (Some bytes) input text f Q before after is same cut = subst (λ t.
 
 -- ---- the answer
 
-told_left : (work : Job) (limit : ℕ) (before after : Input) (answer : Answer) (err err_now : Output) → IsAnswerOf work limit before after answer
+told_left : (work : Job) (limit : ℕ) (before after : Input) (answer : ProgramAnswer) (err err_now : Output) → IsAnswerOf work limit before after answer
     → IsWritten err err_now (Some (string_bytes answer.refusals)) → IsWritten err err_now (told_text_if_told work before.left)
 told_left work limit before after answer err err_now is all =
     written_left before.left is.input (string_bytes answer.refusals) (told_of work) (after.left ≡ Some []) err err_now is.whole is.told all
 
-text_left : (work : Job) (limit : ℕ) (before after : Input) (answer : Answer) (out out_now : Output) → IsAnswerOf work limit before after answer
+text_left : (work : Job) (limit : ℕ) (before after : Input) (answer : ProgramAnswer) (out out_now : Output) → IsAnswerOf work limit before after answer
     → IsWritten out out_now (Some (joined answer.pieces.items)) → IsWritten out out_now (job_text_if_told work before.left)
 text_left work limit before after answer out out_now is all =
     written_left before.left is.input (joined answer.pieces.items) (job_text_of work) (after.left ≡ Some []) out out_now is.whole is.text all
 
 -- the input was read whole
-pub read_whole : (work : Job) (limit : ℕ) (before after : Input) (answer : Answer) → IsAnswerOf work limit before after answer → IsReadWhole limit before after
+pub read_whole : (work : Job) (limit : ℕ) (before after : Input) (answer : ProgramAnswer) → IsAnswerOf work limit before after answer → IsReadWhole limit before after
 read_whole work limit before after answer is = within_left before.left is.input limit (after.left ≡ Some []) is.whole is.within
 
 -- the answer was written, and the job is done
-pub is_done : (work : Job) (limit : ℕ) (before after : Streams) (answer : Answer) (refused : ℕ) → IsAnswerOf work limit before.input after.input answer
+pub is_done : (work : Job) (limit : ℕ) (before after : Streams) (answer : ProgramAnswer) (refused : ℕ) → IsAnswerOf work limit before.input after.input answer
     → IsWritten before.err after.err (Some (string_bytes answer.refusals)) → IsWritten before.out after.out (Some (joined answer.pieces.items))
     → refused ≡ answer.refused → IsDone work limit before after refused
 is_done work limit before after answer refused is told text count = record {
@@ -60,7 +60,7 @@ is_done work limit before after answer refused is told text count = record {
 }
 
 -- a write of it failed
-pub are_cut_off : (work : Job) (limit : ℕ) (before after : Input) (answer : Answer) (err err_now out out_now : Output) → IsAnswerOf work limit before after answer
+pub are_cut_off : (work : Job) (limit : ℕ) (before after : Input) (answer : ProgramAnswer) (err err_now out out_now : Output) → IsAnswerOf work limit before after answer
     → AreCutOff err err_now out out_now (Some (string_bytes answer.refusals)) (Some (joined answer.pieces.items))
     → AreCutOff err err_now out out_now (told_text_if_told work before.left) (job_text_if_told work before.left)
 are_cut_off work limit before after answer err err_now out out_now is (inl cut) =
@@ -71,7 +71,7 @@ are_cut_off work limit before after answer err err_now out out_now is (inr cut) 
 )
 
 -- the text is written after what is refused
-pub in_order : (work : Job) (limit : ℕ) (before after : Input) (answer : Answer) (err err_now : Output) (P : Type 0) → IsAnswerOf work limit before after answer
+pub in_order : (work : Job) (limit : ℕ) (before after : Input) (answer : ProgramAnswer) (err err_now : Output) (P : Type 0) → IsAnswerOf work limit before after answer
     → P ⊎ IsWritten err err_now (Some (string_bytes answer.refusals)) → P ⊎ IsWritten err err_now (told_text_if_told work before.left)
 in_order work limit before after answer err err_now P is (inl p) = inl p
 in_order work limit before after answer err err_now P is (inr all) = inr (told_left work limit before after answer err err_now is all)

@@ -10,7 +10,7 @@ use Rattle.sct_reconcile.specs.declared.fault.ReconcileFault.{ReconcileFault}
 use Rattle.sct_reconcile.specs.declared.fault.ReconcileFault.TheVariants.{BadList}
 use Rattle.sct_reconcile.specs.declared.rows.ListedRow.{ListedRow}
 use Rattle.sct_engine.specs.declared.jobs.Job.TheVariants as job
-use Rattle.sct_engine.specs.declared.answers.Answer.{Answer}
+use Rattle.sct_engine.specs.declared.answers.ProgramAnswer.{ProgramAnswer}
 use Rattle.sct_lines.specs.Lines.{refusals_told, set_read, told_text_of}
 use Rattle.sct_view.specs.StatusText.{status_text_of}
 use Rattle.sct_view.specs.TotalsText.{totals_text_of}
@@ -105,7 +105,7 @@ IsBadLimit limit = (limit ≡ 0) ⊎ (1073741824 < limit)
 
 -- The answer of a job to the input that was left. The input was read whole, and is within the limit. If the bytes left before are
 -- known, they are the input. If they are not known, as those of the real standard input, the input is some text.
-pub record IsAnswerOf (work : Job) (limit : ℕ) (before after : Input) (answer : Answer) : Type 0 where
+pub record IsAnswerOf (work : Job) (limit : ℕ) (before after : Input) (answer : ProgramAnswer) : Type 0 where
   pub input : List ℕ
   pub within : length input ≤ limit
   pub whole : IfSome before.left (λ left. (left ≡ input) × (after.left ≡ Some []))

@@ -230,7 +230,7 @@ fn serve_command<'a>(alloc: Global) -> Result<Command<'a>, AllocError>
     place.arg(journal)
 }
 
-/// The program's command line.
+/// The program's command line. The error is that it is out of memory.
 pub fn command<'a>(alloc: Global) -> Result<Command<'a>, AllocError>
     ensures { IfOk result (λ c. app_of c ≡ command_line) }
 {

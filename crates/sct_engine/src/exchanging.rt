@@ -12,11 +12,11 @@ ghost use Rattle.sct_engine.specs.declared.fault.ProgramFault.TheVariants as fau
 ghost use Rattle.sct_set.specs.Archive.{archive_text_of};
 ghost use Rattle.sct_set.specs.Pieces.{joined};
 
-use crate::answers::{Answer, one_piece};
+use crate::answers::{ProgramAnswer, one_piece};
 use crate::fault::ProgramFault;
 use crate::files::read_file;
+use crate::jobs::Release;
 use crate::places::{SiteCommand, Wanting};
-use crate::release::Release;
 use sct_delta::{DeltaFault, Vector};
 use sct_exchange::{DeltaFile, Exchanged, exchange, write_cut, write_held, write_refused_files};
 use sct_lines::{Intake, Refusals, read_file_lines};
@@ -24,7 +24,7 @@ use sct_message::Message;
 use sct_set::SortedArchive;
 use sct_site::SiteCore;
 use sct_streams::{FileReading, Files};
-use std::alloc::Global;
+use std::alloc::{AllocError, Global};
 use std::sync::Arc;
 use std::sync::ledger::Ledger;
 use std::thread::Threads;
@@ -46,14 +46,13 @@ pub struct Gathered {
     pub deltas: Vec<DeltaFile>,
 }
 
-// What the text of a delta file is read as. Error: `Memory` (65).
-fn delta_of(alloc: Global, text: &[u8]) -> Result<DeltaFile, ProgramFault>
-    ensures file { IfOk result (λ file. file ≡ delta_in text.now) }
-    ensures memory { IfErr result (λ e. e ≡ fault.Memory) }
+// What the text of a delta file is read as. Error: out of memory.
+fn delta_of(alloc: Global, text: &[u8]) -> Result<DeltaFile, AllocError>
+    ensures { IfOk result (λ file. file ≡ delta_in text.now) }
 {
     match sct_exchange::read_file(alloc, text) {
         Ok(file) => Ok(file),
-        Err(_) => Err(ProgramFault::Memory),
+        Err(_) => Err(AllocError),
     }
 }
 
@@ -70,7 +69,7 @@ fn read_delta<R: Files, L: Ledger>(
     ensures counted { IfErr result (λ e. reading.new.failures ≡ reading.old.failures + failed_reads e) }
 {
     let text = read_file(alloc, files, reading, path)?;
-    delta_of(alloc, &text)
+    Ok(delta_of(alloc, &text)?)
 }
 
 // Reads the delta files at the paths, one after another.
@@ -87,7 +86,9 @@ fn read_deltas<R: Files, L: Ledger>(
 {
     let mut deltas = Vec::new(alloc);
     for path in paths {
-        deltas.push(read_delta(alloc, files, reading, path)?)?;
+        deltas
+            .push(read_delta(alloc, files, reading, path)?)
+            .map_err(AllocError::from)?;
     }
     Ok(deltas)
 }
@@ -123,15 +124,14 @@ pub fn gather<T: Threads + Sync, R: Files, L: Ledger>(
 }
 
 // The archive text of what a site holds, in pieces. The pieces are written in as many threads as there are processors.
-// Error: `Memory` (65).
+// Error: out of memory.
 fn held_pieces<T: Threads + Sync>(
     rt: &T,
     alloc: Global,
     release: Release,
     core: &SiteCore,
-) -> Result<Vec<Vec<u8>>, ProgramFault>
-    ensures text { IfOk result (λ pieces. joined pieces.items ≡ archive_text_of (messages_of core.now.arrivals)) }
-    ensures memory { IfErr result (λ e. e ≡ fault.Memory) }
+) -> Result<Vec<Vec<u8>>, AllocError>
+    ensures { IfOk result (λ pieces. joined pieces.items ≡ archive_text_of (messages_of core.now.arrivals)) }
 {
     let ordered = SortedArchive::of(rt, alloc, core.archive().messages())?;
     let pieces = ordered.text_in_pieces(rt)?;
@@ -139,37 +139,34 @@ fn held_pieces<T: Threads + Sync>(
     Ok(pieces)
 }
 
-// The text of a site's version vector, with a line feed. Error: `Memory` (65).
-fn vector_line(alloc: Global, core: &SiteCore) -> Result<Vec<u8>, ProgramFault>
-    ensures text { IfOk result (λ text. text.items ≡ vector_line core.now.arrivals) }
-    ensures memory { IfErr result (λ e. e ≡ fault.Memory) }
+// The text of a site's version vector, with a line feed. Error: out of memory.
+fn vector_line(alloc: Global, core: &SiteCore) -> Result<Vec<u8>, AllocError>
+    ensures { IfOk result (λ text. text.items ≡ vector_line core.now.arrivals) }
 {
     let mut text = write_held(alloc, core)?;
     text.push('\n')?;
     Ok(text.into_bytes())
 }
 
-// The delta text of what a site holds above a version vector. Error: `Memory` (65).
-fn delta_text(alloc: Global, core: &SiteCore, have: &Vector) -> Result<Vec<u8>, ProgramFault>
-    ensures text { IfOk result (λ text. text.items ≡ cut_text (count_in have.now) core.now.arrivals) }
-    ensures memory { IfErr result (λ e. e ≡ fault.Memory) }
+// The delta text of what a site holds above a version vector. Error: out of memory.
+fn delta_text(alloc: Global, core: &SiteCore, have: &Vector) -> Result<Vec<u8>, AllocError>
+    ensures { IfOk result (λ text. text.items ≡ cut_text (count_in have.now) core.now.arrivals) }
 {
     match write_cut(alloc, core, have) {
         Ok(text) => Ok(text),
-        Err(_) => Err(ProgramFault::Memory),
+        Err(_) => Err(AllocError),
     }
 }
 
-// The text that is wanted of a site, in pieces. Error: `Memory` (65).
+// The text that is wanted of a site, in pieces. Error: out of memory.
 fn wanted_pieces<T: Threads + Sync>(
     rt: &T,
     alloc: Global,
     release: Release,
     wanting: &Wanting,
     core: &SiteCore,
-) -> Result<Vec<Vec<u8>>, ProgramFault>
-    ensures text { IfOk result (λ pieces. joined pieces.items ≡ wanted_text (wanted_of wanting.now) core.now.arrivals) }
-    ensures memory { IfErr result (λ e. e ≡ fault.Memory) }
+) -> Result<Vec<Vec<u8>>, AllocError>
+    ensures { IfOk result (λ pieces. joined pieces.items ≡ wanted_text (wanted_of wanting.now) core.now.arrivals) }
 {
     let text = match wanting {
         Wanting::Messages => return held_pieces(rt, alloc, release, core),
@@ -187,7 +184,7 @@ pub fn answer_of_site<T: Threads + Sync>(
     alloc: Global,
     release: Release,
     gathered: Gathered,
-) -> Result<Answer, ProgramFault>
+) -> Result<ProgramAnswer, ProgramFault>
     ensures text { IfOk result (λ answer. joined answer.pieces.items ≡ text_by_exchange gathered) }
     ensures told { IfOk result (λ answer. string_bytes answer.refusals ≡ told_by_exchange gathered) }
     ensures refused { IfOk result (λ answer. answer.refused ≡ count_by_exchange gathered) }
@@ -209,11 +206,11 @@ pub fn answer_of_site<T: Threads + Sync>(
     };
     let pieces = wanted_pieces(rt, alloc, release, &wanting, &core)?;
     release.let_go(core);
-    let (mut told, lines) = refusals.into_parts();
-    told.push_str(write_refused_files(alloc, &refused)?.as_str())?;
-    Ok(Answer {
+    let (mut refused_text, lines) = refusals.into_parts();
+    refused_text.push_str(write_refused_files(alloc, &refused)?.as_str())?;
+    Ok(ProgramAnswer {
         pieces,
-        refusals: told,
+        refusals: refused_text,
         refused: lines + refused.len() as u64,
     })
 }

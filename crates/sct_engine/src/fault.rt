@@ -3,16 +3,14 @@ ghost use Rattle.std.specs.Prelude.{◌≡◌};
 ghost use Rattle.sct_engine.specs.declared.fault.ProgramFault.TheVariants as fault;
 ghost use Rattle.sct_engine.specs.Fault.{fault_of_journal, fault_of_keeper, fault_of_list, fault_of_read, fault_of_script, fault_of_serve, fault_of_work, program_fault_number};
 
-use sct_case::CaseFault;
 use sct_journal::JournalError;
 use sct_keeper::KeeperError;
 use sct_reconcile::ReconcileFault;
 use sct_script::ScriptFault;
 use sct_serve::ServeFault;
-use sct_set::SetFault;
 use sct_streams::{Failed, ReadFault};
 use sct_workers::WorkFault;
-use std::alloc::{AllocError, AllocFailed};
+use std::alloc::AllocError;
 use thiserror::Error;
 
 /// The fault that ends a run of the program.
@@ -77,30 +75,6 @@ impl From<AllocError> for ProgramFault {
     ghost from_gives = { λ _ e. e ≡ fault.Memory };
 
     fn from(_error: AllocError) -> ProgramFault {
-        ProgramFault::Memory
-    }
-}
-
-impl From<CaseFault> for ProgramFault {
-    ghost from_gives = { λ _ e. e ≡ fault.Memory };
-
-    fn from(_fault: CaseFault) -> ProgramFault {
-        ProgramFault::Memory
-    }
-}
-
-impl From<SetFault> for ProgramFault {
-    ghost from_gives = { λ _ e. e ≡ fault.Memory };
-
-    fn from(_fault: SetFault) -> ProgramFault {
-        ProgramFault::Memory
-    }
-}
-
-impl<T: Drop> From<AllocFailed<T>> for ProgramFault {
-    ghost from_gives = { λ _ e. e ≡ fault.Memory };
-
-    fn from(_error: AllocFailed<T>) -> ProgramFault {
         ProgramFault::Memory
     }
 }

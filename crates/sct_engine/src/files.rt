@@ -6,9 +6,9 @@ ghost use Rattle.sct_streams.specs.Files.{AreGiven, IsGiven};
 ghost use Rattle.sct_workers.specs.Files.{bytes_of};
 
 use crate::fault::ProgramFault;
-use crate::transfer::MOST_BYTES;
+use crate::jobs::MOST_BYTES;
 use sct_streams::{FileReading, Files, Source, read_all};
-use std::alloc::Global;
+use std::alloc::{AllocError, Global};
 use std::sync::ledger::Ledger;
 
 // Reads all bytes that a source has left.
@@ -61,7 +61,9 @@ pub fn read_files<R: Files, L: Ledger>(
 {
     let mut inputs = Vec::new(alloc);
     for path in paths {
-        inputs.push(read_file(alloc, files, reading, path)?)?;
+        inputs
+            .push(read_file(alloc, files, reading, path)?)
+            .map_err(AllocError::from)?;
     }
     Ok(inputs)
 }

@@ -20,22 +20,23 @@ ghost use Rattle.sct_engine.specs.Fault.{failed_reads};
 ghost use Rattle.sct_engine.specs.Stream.{streams};
 ghost use Rattle.sct_streams.specs.Stream.{HasTakenIfTold, IsWritten};
 
-use crate::answers::{
-    Answer, closed_pieces, kept_pieces, one_piece, report_text, status_pieces, totals_text,
-    write_answer,
-};
+use crate::answers::{ProgramAnswer, one_piece, write_answer};
 use crate::fault::ProgramFault;
-use crate::holding::archive_pieces;
-use crate::release::Release;
 use crate::replays::answer_of_script;
-use crate::transfer::MOST_BYTES;
+use crate::texts::{
+    archive_pieces, closed_pieces, kept_pieces, report_text, status_pieces, totals_text,
+};
 use sct_element::{Bic, Day};
 use sct_input::read_messages;
 use sct_lines::Intake;
 use sct_reconcile::List;
 use sct_streams::{Sink, Source, read_all};
 use std::alloc::Global;
+use std::mem;
 use std::thread::Threads;
+
+/// The greatest number of bytes of one input: 1 GiB.
+pub const MOST_BYTES: u64 = 1_073_741_824;
 
 /// The job of a command that reads standard input.
 #[derive(Drop)]
@@ -63,6 +64,26 @@ pub struct Done {
     pub refused: u64,
 }
 
+/// When the memory of a job is given back.
+#[derive(Clone, Copy, Debug, PartialEq, Eq)]
+pub enum Release {
+    /// At once, one value after another.
+    AtOnce,
+    /// At the end of the process, which gives back all memory together. It takes less
+    /// time, and is for a process that ends soon.
+    AtExit,
+}
+
+impl Release {
+    /// Gives back the memory of a value, or leaves it until the process ends.
+    pub fn let_go<T: Drop>(self, value: T) {
+        match self {
+            Release::AtOnce => drop(value),
+            Release::AtExit => mem::forget(value),
+        }
+    }
+}
+
 // The answer of a job. Its list is read first, if it has one, and then the whole input. `release` says what becomes of the messages,
 // the view, the list or the events afterwards.
 // Errors: `BadList` (48), `TooLong` (60), `Read` (62), `Usage` (64) if the input is not the script of a replay, and `Memory` (65).
@@ -73,7 +94,7 @@ fn answer_of_job<T: Threads + Sync, R: Source>(
     job: &Job,
     limit: u64,
     reader: &mut R,
-) -> Result<Answer, ProgramFault>
+) -> Result<ProgramAnswer, ProgramFault>
     ensures answered { IfOk result (IsAnswerOf job.now limit (R.state reader.old) (R.state reader.new)) }
     ensures ends { IfErr result EndsUnwritten }
     ensures usage { result ≡ Err fault.Usage → IsRefusedInput job.now limit (R.state reader.old) (R.state reader.new) }
@@ -90,34 +111,34 @@ fn answer_of_job<T: Threads + Sync, R: Source>(
         Job::Status => {
             let Intake { messages, refusals } = read_messages(rt, alloc, reader, limit)?;
             let pieces = status_pieces(rt, alloc, release, messages)?;
-            Ok(Answer::of(pieces, refusals))
+            Ok(ProgramAnswer::of(pieces, refusals))
         }
         Job::Archive => {
             let Intake { messages, refusals } = read_messages(rt, alloc, reader, limit)?;
             let pieces = archive_pieces(rt, alloc, release, messages)?;
-            Ok(Answer::of(pieces, refusals))
+            Ok(ProgramAnswer::of(pieces, refusals))
         }
         Job::Totals => {
             let Intake { messages, refusals } = read_messages(rt, alloc, reader, limit)?;
             let text = totals_text(rt, alloc, release, messages)?;
-            Ok(Answer::of(one_piece(alloc, text)?, refusals))
+            Ok(ProgramAnswer::of(one_piece(alloc, text)?, refusals))
         }
         Job::Keep(day) => {
             let Intake { messages, refusals } = read_messages(rt, alloc, reader, limit)?;
             let pieces = kept_pieces(rt, alloc, release, messages, day)?;
-            Ok(Answer::of(pieces, refusals))
+            Ok(ProgramAnswer::of(pieces, refusals))
         }
         Job::Closed(day) => {
             let Intake { messages, refusals } = read_messages(rt, alloc, reader, limit)?;
             let pieces = closed_pieces(rt, alloc, release, messages, day)?;
-            Ok(Answer::of(pieces, refusals))
+            Ok(ProgramAnswer::of(pieces, refusals))
         }
         Job::Report { bank, day, list } => {
             let list = List::read(alloc, list)?;
             let Intake { messages, refusals } = read_messages(rt, alloc, reader, limit)?;
             let text = report_text(rt, alloc, release, messages, bank, day, &list)?;
             release.let_go(list);
-            Ok(Answer::of(one_piece(alloc, text)?, refusals))
+            Ok(ProgramAnswer::of(one_piece(alloc, text)?, refusals))
         }
         Job::Replay => {
             let script = read_all(alloc, reader, limit)?;

@@ -1,17 +1,16 @@
 //! The arguments of the commands on one site of a group: its place, what is wanted of it, and its files.
-ghost use Rattle.std.specs.Prelude.{◌≡◌, codes, map, option_map, IfErr, IfOk};
+ghost use Rattle.std.specs.Prelude.{◌≡◌, codes, map, option_map, IfOk};
 ghost use Rattle.clap.specs.Words.{first_of, found_of, rows_of};
 ghost use Rattle.sct_delta.specs.Vectors.{count_in};
 ghost use Rattle.sct_engine.specs.Places.{deltas_ordered, group_in, have_ordered, number_in_word, number_ordered, place_from, place_ordered, wanted_of};
 ghost use Rattle.sct_engine.specs.Request.{cut_ordered, exchange_from, serve_from, IsOrdered};
-ghost use Rattle.sct_engine.specs.declared.fault.ProgramFault.TheVariants as fault;
 ghost use Rattle.sct_site.specs.Cores.{is_open};
 
 use crate::fault::ProgramFault;
 use crate::request::Request;
 use clap::ArgMatches;
 use sct_delta::{MOST_SITES, Vector, number_of, read_vector};
-use std::alloc::Global;
+use std::alloc::{AllocError, Global};
 
 /// What is wanted of a site.
 #[derive(Drop)]
@@ -100,15 +99,14 @@ pub fn place_given(given: &ArgMatches<'_>) -> Option<(u16, u16)>
     place_of(site, sites)
 }
 
-// The paths of the deltas. There may be none.
+// The paths of the deltas. There may be none. Error: out of memory.
 #[tactic(auto, using(crate::proofs::Values::values_given))]
-fn deltas_given<'a>(alloc: Global, given: &ArgMatches<'a>) -> Result<Vec<&'a str>, ProgramFault>
-    ensures deltas { IfOk result (λ paths. map (λ path. path.now) paths.items
+fn deltas_given<'a>(alloc: Global, given: &ArgMatches<'a>) -> Result<Vec<&'a str>, AllocError>
+    ensures { IfOk result (λ paths. map (λ path. path.now) paths.items
         ≡ deltas_ordered (rows_of (found_of given.now))) }
-    ensures memory { IfErr result (λ e. e ≡ fault.Memory) }
 {
     match given.get_strs("DELTA") {
-        Some(paths) => Ok(paths.to_vec(alloc)?),
+        Some(paths) => paths.to_vec(alloc),
         None => Ok(Vec::new(alloc)),
     }
 }
@@ -146,14 +144,13 @@ pub fn request_on_site<'a>(
     }))
 }
 
-// The version vector that an argument writes. None if the argument does not write one.
+// The version vector that an argument writes. None if the argument does not write one. Error: out of memory.
 #[tactic(auto, using(crate::proofs::Values::value_given))]
-fn have_given(alloc: Global, given: &ArgMatches<'_>) -> Result<Option<Vector>, ProgramFault>
-    ensures have { IfOk result (λ vector. option_map count_in vector ≡ have_ordered (rows_of (found_of given.now))) }
-    ensures memory { IfErr result (λ e. e ≡ fault.Memory) }
+fn have_given(alloc: Global, given: &ArgMatches<'_>) -> Result<Option<Vector>, AllocError>
+    ensures { IfOk result (λ vector. option_map count_in vector ≡ have_ordered (rows_of (found_of given.now))) }
 {
     match given.get_str("HAVE") {
-        Some(text) => Ok(read_vector(alloc, text.as_bytes())?),
+        Some(text) => read_vector(alloc, text.as_bytes()),
         None => Ok(None),
     }
 }

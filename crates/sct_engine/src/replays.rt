@@ -7,22 +7,21 @@ ghost use Rattle.sct_world.specs.Happenings.{happenings_of};
 ghost use Rattle.sct_world.specs.States.{is_size};
 ghost use Rattle.sct_engine.specs.declared.fault.ProgramFault.TheVariants as fault;
 
-use crate::answers::{Answer, one_piece};
+use crate::answers::{ProgramAnswer, one_piece};
 use crate::fault::ProgramFault;
-use crate::release::Release;
+use crate::jobs::Release;
 use sct_script::{Script, read_script, replay};
-use std::alloc::Global;
+use std::alloc::{AllocError, Global};
 
-// The replay of a script. Its number of sites is one that a world can have, so that the only error is `Memory` (65).
-fn replay_text(alloc: Global, script: &Script) -> Result<Vec<u8>, ProgramFault>
+// The replay of a script. Its number of sites is one that a world can have, so that the only error is out of memory.
+fn replay_text(alloc: Global, script: &Script) -> Result<Vec<u8>, AllocError>
     requires { is_size script.now.sites ≡ true }
-    ensures text { IfOk result (λ text. text.items
+    ensures { IfOk result (λ text. text.items
         ≡ replay_text script.now.sites (happenings_of script.now.events.items)) }
-    ensures memory { IfErr result (λ e. e ≡ fault.Memory) }
 {
     match replay(alloc, script.sites, &script.events) {
         Ok(text) => Ok(text),
-        Err(_) => Err(ProgramFault::Memory),
+        Err(_) => Err(AllocError),
     }
 }
 
@@ -33,7 +32,7 @@ pub fn answer_of_script(
     alloc: Global,
     release: Release,
     input: &[u8],
-) -> Result<Answer, ProgramFault>
+) -> Result<ProgramAnswer, ProgramFault>
     ensures text { IfOk result (λ answer. joined answer.pieces.items ≡ replay_of input.now) }
     ensures told { IfOk result (λ answer. string_bytes answer.refusals ≡ event_refusals_text (event_refusals_told input.now)) }
     ensures refused { IfOk result (λ answer. answer.refused ≡ length (event_refusals_told input.now)) }
@@ -49,5 +48,5 @@ pub fn answer_of_script(
         ..
     } = script;
     release.let_go(events);
-    Ok(Answer::of(pieces, refusals))
+    Ok(ProgramAnswer::of(pieces, refusals))
 }

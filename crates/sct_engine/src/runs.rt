@@ -1,23 +1,26 @@
 //! A run of several inputs: each input fills a site of its own, the sites are settled, and the answer is the status text of
 //! all their messages.
-ghost use Rattle.std.specs.Prelude.{◌≡◌, ◌↔◌, ◌<◌, false, true, Err, length, IfErr, IfOk, OnOk, string_bytes};
+ghost use Rattle.std.specs.Prelude.{◌≡◌, ◌≢◌, ◌↔◌, ◌<◌, false, true, Err, length, IfErr, IfOk, OnOk, string_bytes};
 ghost use Rattle.sct_delta.specs.Entries.{messages_of};
 ghost use Rattle.sct_engine.specs.Fault.{fault_of_work};
 ghost use Rattle.sct_engine.specs.Runs.{are_sites, set_of_all, IsSettledAnswer, IsSettlingFault, NoOrderMatters, RunEndsWhere};
+ghost use Rattle.sct_engine.specs.Tasks.{EndsSettling};
 ghost use Rattle.sct_engine.specs.declared.fault.ProgramFault.TheVariants as fault;
+ghost use Rattle.sct_set.specs.Pieces.{joined};
 ghost use Rattle.sct_view.specs.StatusText.{status_text_of};
 ghost use Rattle.sct_workers.specs.Files.{bytes_of, refused_in, told_from};
 ghost use Rattle.sct_workers.specs.Filling.{AreFilled};
 ghost use Rattle.sct_workers.specs.Holds.{EndsWhere};
 ghost use Rattle.sct_world.specs.Settling.{core_in, AreSettled};
 
+use crate::answers::{ProgramAnswer, one_piece};
 use crate::fault::ProgramFault;
 use sct_set::Archive;
 use sct_site::SiteCore;
 use sct_view::FiledArchive;
-use sct_workers::{Gate, Sites, WorkFault, fill_sites};
+use sct_workers::{FreeGate, Gate, Sites, WorkFault, fill_sites};
 use sct_world::settle;
-use std::alloc::Global;
+use std::alloc::{AllocError, Global};
 use std::sync::Wait;
 use std::thread::Threads;
 
@@ -70,14 +73,13 @@ fn settle_all(alloc: Global, cores: &mut [SiteCore]) -> Result<(), ProgramFault>
     }
 }
 
-// The status text of an archive, evaluated and written in as many threads as there are processors. Error: `Memory` (65).
+// The status text of an archive, evaluated and written in as many threads as there are processors. Error: out of memory.
 fn status_text<R: Threads + Sync>(
     rt: &R,
     alloc: Global,
     archive: &Archive,
-) -> Result<Vec<u8>, ProgramFault>
-    ensures text { IfOk result (λ text. text.items ≡ status_text_of archive.now) }
-    ensures memory { IfErr result (λ e. e ≡ fault.Memory) }
+) -> Result<Vec<u8>, AllocError>
+    ensures { IfOk result (λ text. text.items ≡ status_text_of archive.now) }
 {
     let filed = FiledArchive::of(rt, alloc, archive.messages())?;
     let pieces = filed.status_text_in_pieces(rt)?;
@@ -97,7 +99,7 @@ fn settled_status<R: Threads + Sync>(
     ensures refused { IfErr result IsSettlingFault }
 {
     settle_all(alloc, cores)?;
-    status_text(rt, alloc, cores[0].archive())
+    Ok(status_text(rt, alloc, cores[0].archive())?)
 }
 
 // Settles the sites if all of them were filled, and returns the answer of the run. Otherwise it returns the fault of
@@ -168,4 +170,33 @@ pub fn run_sites<G: Gate + Sync, R: Threads + Wait + Sync>(
     let sites = fill(rt, alloc, gate, &inputs);
     drop(inputs);
     settle_filled(rt, alloc, sites)
+}
+
+/// Fills a site from each input, and settles the sites. The answer is the status text of all messages that are read from the
+/// inputs, and the refused lines, each with its input's number. No gate holds the workers of the sites.
+/// Errors: `Usage` (64) if there are not 1 to 16 inputs; `Memory` (65); `Refused` (66) if a call at a site is
+/// refused; `NoWorker` (67) if a thread for a worker cannot be started.
+#[tactic(auto, using(crate::proofs::RunFaults::ends_settling))]
+pub fn answer_of_inputs<T: Threads + Wait + Sync>(
+    rt: &T,
+    alloc: Global,
+    inputs: Vec<Vec<u8>>,
+) -> Result<ProgramAnswer, ProgramFault>
+    ensures text { IfOk result (λ answer. joined answer.pieces.items ≡ status_text_of (set_of_all (bytes_of inputs.items))) }
+    ensures told { IfOk result (λ answer. string_bytes answer.refusals ≡ told_from 1 (bytes_of inputs.items)) }
+    ensures refused { IfOk result (λ answer. answer.refused ≡ refused_in (bytes_of inputs.items)) }
+    ensures usage { result ≡ Err fault.Usage → are_sites (length inputs.items) ≡ false }
+    ensures faults { IfErr result EndsSettling }
+    ensures unwritten { IfErr result (λ e. e ≢ fault.Write) }
+{
+    let RunAnswer {
+        status,
+        told,
+        refused,
+    } = run_sites(rt, alloc, &FreeGate, inputs)?;
+    Ok(ProgramAnswer {
+        pieces: one_piece(alloc, status)?,
+        refusals: told,
+        refused,
+    })
 }

@@ -1,5 +1,5 @@
 -- Rounds, one file and one round after another. Proof plumbing.
-use Rattle.std.proofs.Common.{◌≡◌, ◌∙◌, refl, ap, sym, ℕ, zero, suc, ◌+◌, ◌<◌, ◌≤◌, Bool, true, false, cond, ◌||◌, List, [], ◌∷◌, ◌++◌, length, take, get_or, arith, append_assoc, add-one, take-suc}
+use Rattle.std.proofs.Common.{◌≡◌, ◌∙◌, refl, ap, sym, subst, ℕ, zero, suc, ◌+◌, ◌<◌, ◌≤◌, Bool, true, false, cond, ◌||◌, List, [], ◌∷◌, ◌++◌, length, take, get_or, arith, append_assoc, add-one, take-suc}
 use Rattle.std.specs.Prelude.{Option, Some, None, option_map}
 use Rattle.std.specs.List.{list_any}
 use Rattle.std.proofs.lemmas.Bool.{false≢true}
@@ -37,7 +37,7 @@ round_at_most core (file ∷ files) =
       | false ↦ omega (arith, round_at_most core files)
     ]
 
-pub round_fewer : (core : Core) (files : List Numbered) → list_any (λ file. is_accepted core file.1) files ≡ true → length (round core files).left < length files
+round_fewer : (core : Core) (files : List Numbered) → list_any (λ file. is_accepted core file.1) files ≡ true → length (round core files).left < length files
 round_fewer core [] some = absurd (false≢true some)
 round_fewer core (file ∷ files) some =
     elim (is_accepted core file.1) as (λ b. (b || list_any (λ f. is_accepted core f.1) files) ≡ true
@@ -71,14 +71,34 @@ next_of most start now (suc more) enough same some = record {
   same = sym (ap (λ (b : Bool). cond b (rounds more (round now.core now.left)) now) some) ∙ same;
 }
 
-pub after_round : (most : ℕ) (start now : Offers) → ComesToTheSame most start now → accepts_some now ≡ true → ComesToTheSame most start (round now.core now.left)
+after_round : (most : ℕ) (start now : Offers) → ComesToTheSame most start now → accepts_some now ≡ true → ComesToTheSame most start (round now.core now.left)
 after_round most start now comes some = next_of most start now comes.more comes.enough comes.same some
 
--- what a test of all files that are lent tells of those that are left
-pub lent_tells : (core : Core) (left lent : List Numbered) (told some : Bool) → lent ≡ left → told ≡ accepts_some (record { core = core; left = lent }) → told ≡ some
-    → accepts_some (record { core = core; left = left }) ≡ some
-lent_tells core left lent told some same is so =
-    ap (λ (l : List Numbered). accepts_some (record { core = core; left = l })) (sym same) ∙ sym is ∙ so
+-- a round that accepts none changes nothing
+round_none : (core : Core) (files : List Numbered) → list_any (λ file. is_accepted core file.1) files ≡ false → round core files ≡ record { core = core; left = files }
+round_none core [] none = refl
+round_none core (file ∷ files) none =
+    elim (is_accepted core file.1) as (λ b. (b || list_any (λ f. is_accepted core f.1) files) ≡ false
+    → cond b (round (core_with core file.1) files) (leaving file (round core files)) ≡ record { core = core; left = file ∷ files }) [
+      | true ↦ λ e. absurd (false≢true (sym e))
+      | false ↦ λ later. ap (leaving file) (round_none core files later)
+    ] none
+
+-- a round that accepts none may come after the last one
+pub after_any_round : (most : ℕ) (start now : Offers) → ComesToTheSame most start now → ComesToTheSame most start (round now.core now.left)
+after_any_round most start now comes =
+    elim (accepts_some now) as (λ b. accepts_some now ≡ b → ComesToTheSame most start (round now.core now.left)) [
+      | true ↦ λ some. after_round most start now comes some
+      | false ↦ λ none. subst (ComesToTheSame most start) (sym (round_none now.core now.left none)) comes
+    ] refl
+
+-- a round that leaves as many files as before accepts none, and none is accepted after it
+pub all_left : (now : Offers) → length (round now.core now.left).left ≡ length now.left → accepts_some (round now.core now.left) ≡ false
+all_left now same =
+    elim (accepts_some now) as (λ b. accepts_some now ≡ b → accepts_some (round now.core now.left) ≡ false) [
+      | true ↦ λ some. absurd (omega (arith, same, round_fewer now.core now.left some))
+      | false ↦ λ none. ap accepts_some (round_none now.core now.left none) ∙ none
+    ] refl
 
 no_more : (more : ℕ) (now : Offers) → accepts_some now ≡ false → rounds more now ≡ now
 no_more zero now none = refl

@@ -6,15 +6,12 @@
 //! [`laws`] say that numbers last, and that sites on several machines never fork.
 #![tactic(auto)]
 
-mod files;
-mod journal;
 pub mod laws;
+mod opening;
 mod refused;
 mod rounds;
-mod site;
 mod texts;
 
-pub use files::{DeltaFile, read_file};
+pub use opening::{Exchanged, exchange};
 pub use refused::{RefusedFile, push_refusal, write_refused_files};
-pub use site::{Exchanged, exchange};
-pub use texts::{write_cut, write_held};
+pub use texts::{DeltaFile, read_file, write_cut, write_held};

@@ -4,8 +4,8 @@ ghost use Rattle.std.specs.Prelude.{◌≡◌, IfOk, IfErr, if◌then◌else◌}
 ghost use Rattle.sct_delta.specs.declared.fault.DeltaFault.TheVariants as fault;
 ghost use Rattle.sct_exchange.specs.Rounds.{accepts_some, core_with, exchanged, is_accepted, numbered_files, refusal_of, refused_by, round};
 
-use crate::files::DeltaFile;
 use crate::refused::RefusedFile;
+use crate::texts::DeltaFile;
 use sct_delta::DeltaFault;
 use sct_site::SiteCore;
 use std::alloc::Global;
@@ -69,14 +69,7 @@ fn round(
     Ok(left)
 }
 
-// Whether the site accepts one of the files.
-fn accepts_some(core: &SiteCore, files: &[(u64, DeltaFile)]) -> bool
-    ensures { result ≡ accepts_some (record { core = core.now; left = files.now }) }
-{
-    files.iter().any(|file| refusal(core, &file.1).is_none())
-}
-
-// Offers files in rounds, until one accepts none. Returns those that are left, in their order. An accepted file is dropped
+// Offers files in rounds, until one leaves them all. Returns those that are left, in their order. An accepted file is dropped
 // at once. On an error the site has accepted some of the files.
 pub(crate) fn offer_in_rounds(
     alloc: Global,
@@ -88,7 +81,9 @@ pub(crate) fn offer_in_rounds(
     ensures err { IfErr result (λ refusal. refusal ≡ fault.Memory) }
 {
     let mut left = numbered(alloc, files)?;
-    'rounds: while accepts_some(core, &left) {
+    let mut before = left.len() + 1;
+    'rounds: while left.len() < before {
+        before = left.len();
         left = round(alloc, core, left)?;
     }
     Ok(left)

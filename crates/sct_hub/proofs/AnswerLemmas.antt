@@ -22,8 +22,8 @@ use Rattle.sct_site.proofs.MessageLemmas.{joined_messages, taken_messages, union
 use Rattle.sct_exchange.specs.Journals.{Begins, opened}
 use Rattle.sct_exchange.specs.Rounds.{File, refusal_of}
 use Rattle.sct_requests.specs.Steps.{answer_by, answer_to, answer_to_message, brought, core_after, core_given, core_kept, core_offered, core_with_message, fresh_in_file, is_delta_line, is_question_line, text_in}
-use Rattle.sct_requests.specs.declared.answers.Answer.{Answer}
-use Rattle.sct_requests.specs.declared.answers.Answer.TheVariants as answer
+use Rattle.sct_requests.specs.declared.steps.Reply.{Reply}
+use Rattle.sct_requests.specs.declared.steps.Reply.TheVariants as answer
 use Rattle.sct_requests.proofs.BringLemmas.{with_own}
 use Rattle.sct_requests.proofs.StepLemmas.{after_brought, after_join, number_after}
 use Rattle.sct_hub.specs.Hubs.{World, arrivals_in, happens, site_in}
@@ -37,11 +37,11 @@ use Rattle.sct_hub.proofs.LastLemmas.{arrivals_begin, nothing_lost}
 abbrev given_by : Core → Bool → Bool → Bool → File → Result Draft JsonFault → Core
 given_by core told asked blank file read = cond told (core_offered core file) (cond asked core (cond blank core (core_with_message core read)))
 
-abbrev answered_by : Core → Bool → Bool → Bool → File → Result Draft JsonFault → Answer
+abbrev answered_by : Core → Bool → Bool → Bool → File → Result Draft JsonFault → Reply
 answered_by core told asked blank file read =
     cond told (answer_by (refusal_of core file) (fresh_in_file core file)) (cond asked answer.Asked (cond blank answer.Blank (answer_to_message core read)))
 
-abbrev had_by : Answer → List Draft → List Draft
+abbrev had_by : Reply → List Draft → List Draft
 had_by (answer.Took took) messages = messages
 had_by (answer.Accepted fresh) messages = messages
 had_by other messages = []
@@ -66,7 +66,7 @@ holds_by core false false true file read = holds_none core
 holds_by core false false false file (Ok message) = taken_messages core message
 holds_by core false false false file (Err fault) = holds_none core
 
-same_had : (reply : Answer) (line : List ℕ) → had_by reply (messages_of_line line) ≡ acknowledged_by reply line
+same_had : (reply : Reply) (line : List ℕ) → had_by reply (messages_of_line line) ≡ acknowledged_by reply line
 same_had answer.Blank line = refl
 same_had answer.Asked line = refl
 same_had (answer.Took took) line = refl

@@ -15,7 +15,7 @@ use Rattle.sct_journal.specs.Kept.{AreLines}
 use Rattle.sct_hub.specs.Hubs.{own_journal}
 use Rattle.sct_hub.specs.Laws.{NumbersAreKept}
 use Rattle.sct_requests.specs.Steps.{AreKept, answer_to, core_after, core_given, core_kept}
-use Rattle.sct_requests.specs.declared.answers.Answer.TheVariants as answer
+use Rattle.sct_requests.specs.declared.steps.Reply.TheVariants as answer
 use Rattle.sct_requests.proofs.BringLemmas.{Takes, brings_how}
 use Rattle.sct_hub.proofs.OwnLogLemmas.{log_taken, own_join, own_log_is, own_whole}
 use Rattle.sct_requests.proofs.StepLemmas.{after_join}

@@ -18,8 +18,8 @@ use Rattle.sct_exchange.specs.Ways.{IsAmong}
 use Rattle.sct_journal.specs.Kept.{AreLines, recorded}
 use Rattle.sct_requests.specs.Questions.{answer_asked}
 use Rattle.sct_requests.specs.Steps.{AreKept, answer_to, brought, core_after, core_given, core_kept, is_delta_line, text_in}
-use Rattle.sct_requests.specs.declared.answers.Answer.{Answer}
-use Rattle.sct_requests.specs.declared.answers.Answer.TheVariants as answer
+use Rattle.sct_requests.specs.declared.steps.Reply.{Reply}
+use Rattle.sct_requests.specs.declared.steps.Reply.TheVariants as answer
 use Rattle.sct_hub.specs.Hubs.{Event, IsHub, MayBegin, MayHappen, World, after, arrivals_in, at_first, cut_in, own_journal, run_at, site_in, texts_given}
 use Rattle.sct_hub.specs.Hubs.Event.{Cut, Round}
 
@@ -99,7 +99,7 @@ KeepersHoldExactly =
     → messages_of (arrivals_in sites world site) ≡ set.from_list (flat_map messages_of_line (world.lines site))
 
 -- the messages of a line, if it is answered that the site has them: it took them, held them already, or accepted them
-abbrev pub acknowledged_by : Answer → List ℕ → List Draft
+abbrev pub acknowledged_by : Reply → List ℕ → List Draft
 acknowledged_by (answer.Took took) line = messages_of_line line
 acknowledged_by (answer.Accepted fresh) line = messages_of_line line
 acknowledged_by other line = []

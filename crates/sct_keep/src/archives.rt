@@ -28,9 +28,7 @@ fn archive_of(alloc: Global, messages: &[Arc<Message>]) -> Result<Archive, Alloc
     ensures { IfOk result (λ archive. archive ≡ contents_of (messages_in messages.now)) }
 {
     let mut archive = Archive::new(alloc);
-    let Ok(_) = archive.add_all(messages) else {
-        return Err(AllocError);
-    };
+    archive.add_all(messages)?;
     Ok(archive)
 }
 

@@ -16,7 +16,7 @@ use crate::fault::KeeperError;
 use crate::opening::{open_journal, open_site};
 use sct_embed::{EmbeddedSite, Question};
 use sct_journal::Journal;
-use sct_requests::{Answer, Given, Said, ask, give_all};
+use sct_requests::{AskResult, Given, Reply, ask, give_all};
 use sqlite_disk::Disk;
 use std::alloc::{AllocError, Global};
 
@@ -115,7 +115,7 @@ impl<D: Disk> Keeper<D> {
     /// `evaluate`, `changes`, `transfer BANK TX`, `messages BANK TX`, `bank BANK` or `report BANK DAY LIST`, in which tabs are
     /// the line feeds of the list. [`Keeper::text`] is then the text that was asked for. The cost is that of the [`Question`] of
     /// that name. The question may be refused. The error is that it is out of memory.
-    pub fn ask(&mut self, alloc: Global, question: &[u8]) -> Result<Said, AllocError>
+    pub fn ask(&mut self, alloc: Global, question: &[u8]) -> Result<AskResult, AllocError>
         requires keeper { IsKeeper D.Disk.seen D.Disk.may_leave D.Disk.is_usable D.Disk.is_clean self.old }
         ensures says { Says (answer_asked (watched_site_of self.old) question.now) result (answer_of_keeper self.new) }
         ensures site { core_of_keeper self.new ≡ core_of_keeper self.old }
@@ -129,7 +129,7 @@ impl<D: Disk> Keeper<D> {
     /// The site is given the lines of a text that line feeds end, and each that brings it an entry is written to the journal,
     /// all of them in one batch. At `Ok` they are on the disk, and only then are there answers. At `Err`, open the keeper
     /// again: `Memory` (65), or `Disk` (78) if a call of the disk failed.
-    pub fn round(&mut self, alloc: Global, text: &[u8]) -> Result<Vec<Answer>, KeeperError>
+    pub fn round(&mut self, alloc: Global, text: &[u8]) -> Result<Vec<Reply>, KeeperError>
         requires keeper { IsKeeper D.Disk.seen D.Disk.may_leave D.Disk.is_usable D.Disk.is_clean self.old }
 
         ensures answers { IfOk result (λ answers. answers.items ≡ answers_to (core_of_keeper self.old) (ended_lines text.now)) }

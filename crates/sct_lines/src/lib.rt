@@ -7,7 +7,7 @@
 //! An input may come in blocks that end at line feeds: [`whole_lines`] finds where, and [`LinesRead`] reads one after another.
 //!
 //! [`first_line`], [`is_blank_line`] and [`read_line`] are the steps of it, for crates that read lines of another kind too.
-//! Such a crate says by [`Reason`] why it refuses a line. The only error is that a call is out of memory.
+//! Such a crate says by [`RefusalReason`] why it refuses a line. The only error is that a call is out of memory.
 #![tactic(auto)]
 
 mod before;
@@ -23,4 +23,4 @@ pub use intake::{Intake, LinesRead, read_line, read_lines_after};
 pub use lines::{first_line, is_blank_line, lines_tile_the_text, whole_lines, whole_lines_stay};
 pub use parts::{read_file_lines, read_lines, read_lines_by_halves};
 pub use refusal_text::push_json_fault;
-pub use refusals::{Reason, Refusals};
+pub use refusals::{RefusalReason, Refusals};

@@ -4,7 +4,7 @@ ghost use Rattle.serde_json.specs.Data.{string};
 ghost use Rattle.serde_json.specs.Written.{compact_text};
 ghost use Rattle.sct_lines.specs.Lines.{key_fault_text, json_fault_text};
 
-use crate::refusals::Reason;
+use crate::refusals::RefusalReason;
 use sct_json::{ExtraKey, JsonFault, KeyFault};
 use serde_json::Value;
 use std::alloc::{AllocError, Global};
@@ -66,7 +66,7 @@ pub fn push_json_fault(
     }
 }
 
-impl Reason for JsonFault {
+impl RefusalReason for JsonFault {
     ghost reason_text = { json_fault_text };
 
     fn push_text(&self, alloc: Global, text: &mut String) -> Result<(), AllocError> {

@@ -8,10 +8,10 @@ use std::marker::Model;
 use std::mem;
 
 /// Why a line is refused.
-pub trait Reason {
+pub trait RefusalReason {
     ghost use Rattle.std.specs.Prelude.{◌≡◌, ◌++◌, ℕ, List, OnOk, string_bytes};
 
-    /// The text that [`Reason::push_text`] appends.
+    /// The text that [`RefusalReason::push_text`] appends.
     ghost reason_text: { Self → List ℕ };
 
     /// Appends the number of the fault and its arguments, with a space between each two.
@@ -75,7 +75,7 @@ impl Refusals {
 
     /// Adds a line that is refused for this reason. `front` is written before the line that reports it, such as `file 2 `.
     /// The only error is that it is out of memory. All refused lines are lost then.
-    pub fn push<R: Reason>(
+    pub fn push<R: RefusalReason>(
         &mut self,
         alloc: Global,
         front: &str,

@@ -9,7 +9,7 @@ use Rattle.sct_message.specs.declared.keys.TransferKey.{TransferKey}
 use Rattle.sct_set.specs.Buckets.{bucket}
 use Rattle.sct_reconcile.specs.Filed.{IsFiled}
 use Rattle.sct_reconcile.specs.Reports.{listed_on}
-use Rattle.sct_reconcile.specs.declared.rows.Listed.{Listed}
+use Rattle.sct_reconcile.specs.declared.rows.ListRow.{ListRow}
 use Rattle.sct_reconcile.specs.declared.rows.ListedRow.{ListedRow}
 
 -- a row more
@@ -32,14 +32,14 @@ module _ (E : TransferKey → TransferKey → Bool) (ties : (j k : TransferKey) 
   is_same : E ≡ same_transfer
   is_same = λ n j k. ties j k n
 
-  pub filed_more : {S : Type 0} (old new : IndexMap TransferKey (List Listed) S) (rows : List ListedRow) (row : ListedRow) → IsFiled old rows
+  pub filed_more : {S : Type 0} (old new : IndexMap TransferKey (List ListRow) S) (rows : List ListedRow) (row : ListedRow) → IsFiled old rows
       → ((k : TransferKey) → bucket E new k ≡ cond (E row.key k) (bucket E old k ++ row.listed ∷ []) (bucket E old k))
       → IsFiled new (rows ++ row ∷ [])
   filed_more old new rows row was became = λ k.
       subst (λ (T : TransferKey → TransferKey → Bool). bucket T new k ≡ cond (T row.key k) (bucket T old k ++ row.listed ∷ []) (bucket T old k)) is_same (became k)
-      ∙ ap (λ (b : List Listed). cond (same_transfer row.key k) (b ++ row.listed ∷ []) b) (was k)
+      ∙ ap (λ (b : List ListRow). cond (same_transfer row.key k) (b ++ row.listed ∷ []) b) (was k)
       ∙ sym (listed_more rows row k)
 
-  pub filed_at : {S : Type 0} (index : IndexMap TransferKey (List Listed) S) (rows : List ListedRow) (key : TransferKey) → IsFiled index rows
+  pub filed_at : {S : Type 0} (index : IndexMap TransferKey (List ListRow) S) (rows : List ListedRow) (key : TransferKey) → IsFiled index rows
       → bucket E index key ≡ listed_on rows key
   filed_at index rows key filed = ap (λ (T : TransferKey → TransferKey → Bool). bucket T index key) is_same ∙ filed key

@@ -8,16 +8,16 @@ use Rattle.sct_element.specs.Text.{is_text}
 use Rattle.std.specs.Cmp.Lexicographic.{bytes_decides}
 use Rattle.sct_reconcile.specs.Reports.{verdict_of, is_uninstructed, is_contradicted_word, is_listed_twice}
 use Rattle.sct_reconcile.specs.Laws.{IsMatch}
-use Rattle.sct_reconcile.specs.declared.rows.Listed.{Listed}
+use Rattle.sct_reconcile.specs.declared.rows.ListRow.{ListRow}
 use Rattle.sct_case.specs.declared.words.StatusWord.{StatusWord}
 use Rattle.sct_case.specs.declared.words.StatusWord.TheVariants as word
 use Rattle.sct_reconcile.specs.declared.words.Verdict.TheVariants as verdict
 
-is_two : (l m : Listed) (rest : List Listed) → is_listed_twice (l ∷ m ∷ rest) ≡ true
+is_two : (l m : ListRow) (rest : List ListRow) → is_listed_twice (l ∷ m ∷ rest) ≡ true
 is_two l m rest = grind (arith, nat_tests)
 
 -- a row agrees where its amount and its word do
-decided : (listed : Listed) (told : StatusWord) (amount : Option ℕ) → verdict_of (listed ∷ []) told amount ≡ verdict.Matched
+decided : (listed : ListRow) (told : StatusWord) (amount : Option ℕ) → verdict_of (listed ∷ []) told amount ≡ verdict.Matched
     → is_contradicted_word told ≡ false → is_uninstructed told ≡ false → (amount ≡ Some listed.amount) × (agrees listed.status told ≡ true)
 unfolding verdict_of
 decided listed told None e a b = cc (rw (a, b) at e)
@@ -29,7 +29,7 @@ decided listed told (Some cents) e a b = elim (cases_Bool (nat_eq listed.amount 
   ]
 ]
 
-one_row : (listed : Listed) (told : StatusWord) (amount : Option ℕ) → verdict_of (listed ∷ []) told amount ≡ verdict.Matched
+one_row : (listed : ListRow) (told : StatusWord) (amount : Option ℕ) → verdict_of (listed ∷ []) told amount ≡ verdict.Matched
     → is_contradicted_word told ≡ false → is_uninstructed told ≡ false → told ≢ word.Contradicted → told ≢ word.Unknown → told ≢ word.Missing
     → IsMatch (listed ∷ []) told amount
 one_row listed told amount e a b agreed known instructed =
@@ -44,7 +44,7 @@ one_row listed told amount e a b agreed known instructed =
       same_word = sym ((bytes_decides _ _).0 same.1);
     }
 
-pub is_match : (listed : List Listed) (told : StatusWord) (amount : Option ℕ) → verdict_of listed told amount ≡ verdict.Matched → IsMatch listed told amount
+pub is_match : (listed : List ListRow) (told : StatusWord) (amount : Option ℕ) → verdict_of listed told amount ≡ verdict.Matched → IsMatch listed told amount
 unfolding verdict_of
 is_match (l ∷ m ∷ rest) told amount e = cc (rw (is_two l m rest) at e)
 is_match [] word.Contradicted amount e = cc e
@@ -86,14 +86,14 @@ not_uninstructed word.Accepted u m = refl
 not_uninstructed word.Investigated u m = refl
 not_uninstructed word.Pending u m = refl
 
-one_matched : (listed : Listed) (told : StatusWord) → is_contradicted_word told ≡ false → is_uninstructed told ≡ false
+one_matched : (listed : ListRow) (told : StatusWord) → is_contradicted_word told ≡ false → is_uninstructed told ≡ false
     → agrees listed.status told ≡ true → verdict_of (listed ∷ []) told (Some listed.amount) ≡ verdict.Matched
 unfolding verdict_of
 one_matched listed told a b e = rw (a, b, eq-eqb listed.amount listed.amount refl, e) refl
 
-pub is_matched : (listed : List Listed) (told : StatusWord) (amount : Option ℕ) → IsMatch listed told amount → verdict_of listed told amount ≡ verdict.Matched
+pub is_matched : (listed : List ListRow) (told : StatusWord) (amount : Option ℕ) → IsMatch listed told amount → verdict_of listed told amount ≡ verdict.Matched
 is_matched listed told amount m =
-    ap (λ (ls : List Listed). verdict_of ls told amount) m.once
+    ap (λ (ls : List ListRow). verdict_of ls told amount) m.once
     ∙ ap (verdict_of (m.row ∷ []) told) m.same_amount
     ∙ one_matched m.row told (not_contradicted told m.agreed) (not_uninstructed told m.known m.instructed)
     (ap (is_text (list_status_text m.row.status)) m.same_word ∙ (bytes_decides (list_status_text m.row.status) (list_status_text m.row.status)).1 refl)

@@ -12,7 +12,7 @@ use Rattle.sct_reconcile.specs.Reports.{fields_of_row, is_of_day, keys_reported,
 use Rattle.sct_case.specs.Words.{word_text}
 use Rattle.sct_reconcile.specs.Words.{list_status_text}
 use Rattle.sct_reconcile.specs.declared.fault.ReconcileFault.TheVariants.{BadList}
-use Rattle.sct_reconcile.specs.declared.rows.Listed.{Listed}
+use Rattle.sct_reconcile.specs.declared.rows.ListRow.{ListRow}
 use Rattle.sct_reconcile.specs.declared.rows.ListedRow.{ListedRow}
 use Rattle.sct_reconcile.specs.declared.rows.ReportRow.{ReportRow}
 use Rattle.sct_case.specs.declared.words.StatusWord.{StatusWord}
@@ -81,8 +81,8 @@ OthersAreOfTheBank = (held : MessageSet) (bank day : List ℕ) (list : List List
 
 -- One row is on the transfer, its messages do not contradict each other, one of them instructs it,
 -- and the amounts and the words are equal.
-pub record IsMatch (listed : List Listed) (told : StatusWord) (amount : Option ℕ) : Type 0 where
-  pub row : Listed
+pub record IsMatch (listed : List ListRow) (told : StatusWord) (amount : Option ℕ) : Type 0 where
+  pub row : ListRow
   pub once : listed ≡ row ∷ []
   pub agreed : told ≢ word.Contradicted
   pub known : told ≢ word.Unknown
@@ -92,7 +92,7 @@ pub record IsMatch (listed : List Listed) (told : StatusWord) (amount : Option �
 
 -- a transfer is matched exactly if that holds
 abbrev pub MatchedExactly : Type 0
-MatchedExactly = (listed : List Listed) (told : StatusWord) (amount : Option ℕ)
+MatchedExactly = (listed : List ListRow) (told : StatusWord) (amount : Option ℕ)
     → (verdict_of listed told amount ≡ verdict.Matched) ↔ IsMatch listed told amount
 
 -- A list does not change the row of a transfer that it does not name: the transfer has a row exactly if it has one

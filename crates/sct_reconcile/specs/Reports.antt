@@ -15,7 +15,7 @@ use Rattle.sct_message.specs.declared.keys.TransferKey.{TransferKey}
 use Rattle.sct_view.specs.Answers.{status_of, transfers_of_bank}
 use Rattle.sct_case.specs.Words.{word_of, word_text}
 use Rattle.sct_reconcile.specs.Words.{agrees, list_status_text, verdict_text}
-use Rattle.sct_reconcile.specs.declared.rows.Listed.{Listed}
+use Rattle.sct_reconcile.specs.declared.rows.ListRow.{ListRow}
 use Rattle.sct_reconcile.specs.declared.rows.ListedRow.{ListedRow}
 use Rattle.sct_reconcile.specs.declared.rows.ReportRow.{ReportRow}
 use Rattle.sct_case.specs.declared.words.StatusWord.{StatusWord}
@@ -26,7 +26,7 @@ use Rattle.sct_reconcile.specs.declared.words.Verdict.TheVariants as verdict
 -- ---- the facts on a transfer
 
 -- what the rows of a list on a transfer say, in the order of the list
-abbrev pub listed_on : List ListedRow → TransferKey → List Listed
+abbrev pub listed_on : List ListedRow → TransferKey → List ListRow
 listed_on list key = map (λ row. row.listed) (filter (λ row. same_transfer row.key key) list)
 
 -- the amount of an instruction, in cents
@@ -41,11 +41,11 @@ word_on held key = word_of (status_of held key)
 -- ---- the sentences on a transfer
 
 -- the list names the transfer more than once
-abbrev pub is_listed_twice : List Listed → Bool
+abbrev pub is_listed_twice : List ListRow → Bool
 is_listed_twice listed = nat_lt 1 (length listed)
 
 -- the list names the transfer
-abbrev pub is_named_by_list : List Listed → Bool
+abbrev pub is_named_by_list : List ListRow → Bool
 is_named_by_list listed = nat_lt 0 (length listed)
 
 -- its messages contradict each other
@@ -60,18 +60,18 @@ is_uninstructed word.Missing = true
 is_uninstructed other = false
 
 -- the list names the amount of the instruction
-abbrev pub has_amount : Option Listed → Option ℕ → Bool
+abbrev pub has_amount : Option ListRow → Option ℕ → Bool
 has_amount (Some listed) (Some cents) = nat_eq listed.amount cents
 has_amount listed other = false
 
 -- the list names the status
-abbrev pub has_status : Option Listed → StatusWord → Bool
+abbrev pub has_status : Option ListRow → StatusWord → Bool
 has_status (Some listed) told = agrees listed.status told
 has_status None told = false
 
 -- ---- the result: the first of eight cases
 
-unfoldable pub verdict_of : List Listed → StatusWord → Option ℕ → Verdict
+unfoldable pub verdict_of : List ListRow → StatusWord → Option ℕ → Verdict
 verdict_of listed told amount =
     if is_listed_twice listed then verdict.ListedTwice
     else if is_contradicted_word told then verdict.Contradicted
@@ -86,7 +86,7 @@ verdict_of listed told amount =
 
 -- the row of a transfer, from what the list, the messages and the instruction say of it; it has what the list says if
 -- exactly one row of the list is on the transfer
-abbrev pub row_from : TransferKey → List Listed → StatusWord → Option ℕ → ReportRow
+abbrev pub row_from : TransferKey → List ListRow → StatusWord → Option ℕ → ReportRow
 row_from key listed told amount = record {
   key = key;
   verdict = verdict_of listed told amount;
@@ -96,7 +96,7 @@ row_from key listed told amount = record {
 }
 
 -- the row of a transfer, from what the rows of a list say of it
-abbrev pub row_beside : MessageSet → List Listed → TransferKey → ReportRow
+abbrev pub row_beside : MessageSet → List ListRow → TransferKey → ReportRow
 row_beside held listed key = row_from key listed (word_on held key) (amount_in (instruction_of held key))
 
 -- the row of a transfer
@@ -138,11 +138,11 @@ abbrev pub amount_field : Option ℕ → List ℕ
 amount_field (Some cents) = amount_text cents
 amount_field None = []
 
-abbrev pub listed_amount_field : Option Listed → List ℕ
+abbrev pub listed_amount_field : Option ListRow → List ℕ
 listed_amount_field (Some listed) = amount_text listed.amount
 listed_amount_field None = []
 
-abbrev pub listed_status_field : Option Listed → List ℕ
+abbrev pub listed_status_field : Option ListRow → List ℕ
 listed_status_field (Some listed) = list_status_text listed.status
 listed_status_field None = []
 

@@ -4,8 +4,7 @@ ghost use Rattle.std.specs.Prelude.{◌≡◌};
 ghost use Rattle.sct_reconcile.specs.Lists.{fault_number};
 ghost use Rattle.sct_reconcile.specs.declared.fault.ReconcileFault.TheVariants as fault;
 
-use sct_case::CaseFault;
-use std::alloc::{AllocError, AllocFailed};
+use std::alloc::AllocError;
 use thiserror::Error;
 
 /// A text that is not a valid list, or out of memory.
@@ -35,22 +34,6 @@ impl From<AllocError> for ReconcileFault {
     ghost from_gives = { λ _ f. f ≡ fault.Memory };
 
     fn from(_: AllocError) -> Self {
-        ReconcileFault::Memory
-    }
-}
-
-impl<T: Drop> From<AllocFailed<T>> for ReconcileFault {
-    ghost from_gives = { λ _ f. f ≡ fault.Memory };
-
-    fn from(_: AllocFailed<T>) -> Self {
-        ReconcileFault::Memory
-    }
-}
-
-impl From<CaseFault> for ReconcileFault {
-    ghost from_gives = { λ _ f. f ≡ fault.Memory };
-
-    fn from(_: CaseFault) -> Self {
         ReconcileFault::Memory
     }
 }

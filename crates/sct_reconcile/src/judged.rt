@@ -4,7 +4,7 @@ ghost use Rattle.sct_message.specs.Transfers.{instruction_of, sole};
 ghost use Rattle.sct_reconcile.specs.Reports.{amount_in, row_beside, row_from, verdict_of};
 ghost use Rattle.sct_reconcile.specs.Reports.{has_amount, has_status, is_contradicted_word, is_uninstructed};
 
-use crate::rows::{Listed, ReportRow};
+use crate::rows::{ListRow, ReportRow};
 use crate::words::Verdict;
 use sct_case::StatusWord;
 use sct_element::Amount;
@@ -26,7 +26,7 @@ fn is_uninstructed(status: StatusWord) -> bool
 }
 
 // What a list says of a transfer, if it names the transfer exactly once.
-fn sole(listed: &[Listed]) -> Option<Listed>
+fn sole(listed: &[ListRow]) -> Option<ListRow>
     ensures { result ≡ sole listed.now }
 {
     match listed {
@@ -36,7 +36,7 @@ fn sole(listed: &[Listed]) -> Option<Listed>
 }
 
 // Whether the row of a list has the amount of the instruction. False if there is no such row or no instruction.
-fn has_amount(listed: Option<Listed>, amount: &Option<Amount>) -> bool
+fn has_amount(listed: Option<ListRow>, amount: &Option<Amount>) -> bool
     ensures { result ≡ has_amount listed amount.now }
 {
     match (listed, amount) {
@@ -46,7 +46,7 @@ fn has_amount(listed: Option<Listed>, amount: &Option<Amount>) -> bool
 }
 
 // Whether the row of a list has the word of the status. False if there is no such row.
-fn has_status(listed: Option<Listed>, status: StatusWord) -> bool
+fn has_status(listed: Option<ListRow>, status: StatusWord) -> bool
     ensures { result ≡ has_status listed status }
 {
     match listed {
@@ -57,7 +57,7 @@ fn has_status(listed: Option<Listed>, status: StatusWord) -> bool
 
 // The first case that holds, in the order of [`Verdict`].
 #[tactic(auto, unfolding(crate::specs::Reports::verdict_of))]
-fn verdict_of(listed: &[Listed], status: StatusWord, amount: &Option<Amount>) -> Verdict
+fn verdict_of(listed: &[ListRow], status: StatusWord, amount: &Option<Amount>) -> Verdict
     ensures { result ≡ verdict_of listed.now status amount.now }
 {
     if listed.len() > 1 {
@@ -107,7 +107,7 @@ fn amount_on(view: &View, key: &TransferKey) -> Option<Amount>
 // The row of a transfer, from what the list, the messages and the instruction say of it.
 fn row_from(
     key: TransferKey,
-    listed: &[Listed],
+    listed: &[ListRow],
     status: StatusWord,
     amount: Option<Amount>,
 ) -> ReportRow
@@ -124,7 +124,7 @@ fn row_from(
 }
 
 /// The report row of the transfer `key`. `listed` is what the rows of a list say of `key`. Expected O(1).
-pub fn row_on(view: &View, listed: &[Listed], key: &TransferKey) -> ReportRow
+pub fn row_on(view: &View, listed: &[ListRow], key: &TransferKey) -> ReportRow
     ensures { result ≡ row_beside view.now listed.now key.now }
 {
     let status = view.status(key).word();

@@ -5,7 +5,6 @@ ghost use Rattle.sct_message.specs.Transfers.{instruction_of};
 ghost use Rattle.sct_reconcile.specs.Reports.{is_of_day, keys_reported, transfers_on_day};
 
 use crate::rows::ListedRow;
-use sct_case::CaseFault;
 use sct_element::{Bic, Day};
 use sct_message::{Draft, Message, TransferKey, keys_are_ordered};
 use sct_view::View;
@@ -53,7 +52,7 @@ fn push_all_of_day(
     view: &View,
     bank: &Bic,
     day: &Day,
-) -> Result<(), CaseFault>
+) -> Result<(), AllocError>
     ensures { OnOk result (keys.new.items ≡ keys.old.items ++ transfers_on_day view.now bank.now day.now) }
 {
     for key in view.transfers_of(bank)? {
@@ -80,7 +79,7 @@ pub(crate) fn keys_named(
     bank: &Bic,
     day: &Day,
     rows: &[ListedRow],
-) -> Result<Vec<TransferKey>, CaseFault>
+) -> Result<Vec<TransferKey>, AllocError>
     ensures { IfOk result (λ keys. keys.items
         ≡ map (λ row. row.key) rows.now ++ transfers_on_day view.now bank.now day.now) }
 {
@@ -96,7 +95,7 @@ pub(crate) fn keys_reported(
     bank: &Bic,
     day: &Day,
     rows: &[ListedRow],
-) -> Result<Vec<TransferKey>, CaseFault>
+) -> Result<Vec<TransferKey>, AllocError>
     ensures { IfOk result (λ keys. keys.items ≡ keys_reported view.now bank.now day.now rows.now) }
 {
     keys_are_ordered();

@@ -2,8 +2,6 @@
 #![tactic(auto)]
 
 mod fault;
-mod fields;
-mod filed;
 mod judged;
 mod keys;
 pub mod laws;
@@ -15,9 +13,9 @@ mod words;
 mod writing;
 
 pub use fault::ReconcileFault;
-pub use fields::{bank_of, day_of, identification_of};
 pub use judged::row_on;
 pub use lists::List;
+pub use records::{bank_of, day_of, identification_of};
 pub use reports::{Report, reconcile, reconcile_alone};
-pub use rows::{Listed, ListedRow, ReportRow};
+pub use rows::{ListRow, ListedRow, ReportRow};
 pub use words::{ListStatus, Verdict};

@@ -9,14 +9,13 @@ ghost use Rattle.sct_reconcile.specs.declared.fault.ReconcileFault.TheVariants a
 ghost use Rattle.sct_reconcile.specs.Words.{list_status_of};
 
 use crate::fault::ReconcileFault;
-use crate::fields::{bank_of, identification_of};
-use crate::records::{all_records, field, text_of};
-use crate::rows::{Listed, ListedRow};
+use crate::records::{all_records, bank_of, field, identification_of, text_of};
+use crate::rows::{ListRow, ListedRow};
 use crate::words::ListStatus;
 use csv::ByteRecord;
 use sct_element::Amount;
 use sct_message::TransferKey;
-use std::alloc::Global;
+use std::alloc::{AllocError, Global};
 use std::marker::Model;
 
 /// The list of a participant for a settlement day: what it says of each transfer that it names.
@@ -81,7 +80,7 @@ fn read_fields(bank: &[u8], tx: &[u8], amount: &[u8], status: &[u8]) -> Option<L
     let status = read_status(status)?;
     Some(ListedRow {
         key: TransferKey { debtor_agent, tx },
-        listed: Listed { amount, status },
+        listed: ListRow { amount, status },
     })
 }
 
@@ -132,7 +131,7 @@ fn rows_after_first(alloc: Global, records: &[ByteRecord]) -> Result<Vec<ListedR
         let Some(row) = read_row(&records[at]) else {
             return Err(bad_record(at));
         };
-        rows.push(row)?;
+        rows.push(row).map_err(AllocError::from)?;
     }
     Ok(rows)
 }

@@ -8,11 +8,10 @@ ghost use Rattle.sct_reconcile.specs.declared.rows.ListedRow.{ListedRow as Row};
 mod alone;
 
 use crate::fault::ReconcileFault;
-use crate::filed::{Index, by_transfer, listed_on};
 use crate::judged::row_on;
 use crate::keys::keys_reported;
 use crate::lists::List;
-use crate::rows::ReportRow;
+use crate::rows::{Index, ReportRow, by_transfer, listed_on};
 use crate::writing::written;
 pub use alone::reconcile_alone;
 use rayon::prelude::*;

@@ -4,7 +4,7 @@ ghost use Rattle.sct_reconcile.specs.Reports.{amount_field, listed_amount_field,
 ghost use Rattle.sct_reconcile.specs.Reports.{csv_text, fields_of_row, report_header, report_text_of};
 ghost use Rattle.sct_reconcile.specs.Writers.{Appends, AppendsRecord, HasWritten};
 
-use crate::rows::{Listed, ReportRow};
+use crate::rows::{ListRow, ReportRow};
 use arrayvec::ArrayString;
 use csv::{Error, Writer, WriterBuilder};
 use sct_element::Amount;
@@ -45,7 +45,7 @@ fn amount_field(amount: Option<Amount>) -> ArrayString<12>
 }
 
 // The field of the amount in a list, empty if the transfer is not listed exactly once.
-fn listed_amount_field(listed: Option<Listed>) -> ArrayString<12>
+fn listed_amount_field(listed: Option<ListRow>) -> ArrayString<12>
     ensures { result.bytes ≡ listed_amount_field listed }
 {
     match listed {
@@ -55,7 +55,7 @@ fn listed_amount_field(listed: Option<Listed>) -> ArrayString<12>
 }
 
 // The field of the status in a list, empty if the transfer is not listed exactly once.
-fn listed_status_field(listed: Option<Listed>) -> &'static str
+fn listed_status_field(listed: Option<ListRow>) -> &'static str
     ensures { result.now ≡ listed_status_field listed }
 {
     match listed {

@@ -14,7 +14,7 @@ use Rattle.sct_exchange.specs.Journals.{opened}
 use Rattle.sct_exchange.specs.Rounds.{File, core_with, is_accepted}
 use Rattle.sct_journal.specs.Kept.{AreLines}
 use Rattle.sct_requests.specs.Steps.{answer_to, answers_to, brings, brought, core_after, core_given, core_kept, core_offered, core_with_message, is_delta_line, is_question_line, text_in}
-use Rattle.sct_requests.specs.declared.answers.Answer.{Answer}
+use Rattle.sct_requests.specs.declared.steps.Reply.{Reply}
 
 -- ---- a line brings entries behind those that are there
 
@@ -135,7 +135,7 @@ kept_more core after lines old new is was added =
 
 pub answers_join : (xs ys : List (List ℕ)) (core : Core) → answers_to core (xs ++ ys) ≡ answers_to core xs ++ answers_to (core_after core xs) ys
 answers_join [] ys core = refl
-answers_join (x ∷ xs) ys core = ap (λ (l : List Answer). answer_to core x ∷ l) (answers_join xs ys (core_given core x))
+answers_join (x ∷ xs) ys core = ap (λ (l : List Reply). answer_to core x ∷ l) (answers_join xs ys (core_given core x))
 
 pub brought_join : (xs ys : List (List ℕ)) (core : Core) → brought core (xs ++ ys) ≡ brought core xs ++ brought (core_after core xs) ys
 brought_join [] ys core = refl

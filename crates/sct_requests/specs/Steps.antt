@@ -10,8 +10,8 @@ use Rattle.sct_delta.specs.declared.fault.DeltaFault.{DeltaFault}
 use Rattle.sct_site.specs.Cores.{Core, core_taken, fresh_entries, took_by}
 use Rattle.sct_exchange.specs.Journals.{opened}
 use Rattle.sct_exchange.specs.Rounds.{File, core_with, is_accepted, refusal_of}
-use Rattle.sct_requests.specs.declared.answers.Answer.{Answer}
-use Rattle.sct_requests.specs.declared.answers.Answer.TheVariants as answer
+use Rattle.sct_requests.specs.declared.steps.Reply.{Reply}
+use Rattle.sct_requests.specs.declared.steps.Reply.TheVariants as answer
 
 -- ---- lines
 
@@ -61,7 +61,7 @@ core_kept number group lines = core_after (opened number group) lines
 
 -- ---- the answer to a line
 
-abbrev pub answer_to_message : Core → Result Draft JsonFault → Answer
+abbrev pub answer_to_message : Core → Result Draft JsonFault → Reply
 answer_to_message core (Ok message) = answer.Took (took_by core message)
 answer_to_message core (Err fault) = answer.Unread fault
 
@@ -70,11 +70,11 @@ abbrev pub fresh_in_file : Core → File → ℕ
 fresh_in_file core (Ok delta) = length (fresh_entries core.arrivals delta)
 fresh_in_file core (Err line) = 0
 
-abbrev pub answer_by : Option DeltaFault → ℕ → Answer
+abbrev pub answer_by : Option DeltaFault → ℕ → Reply
 answer_by None fresh = answer.Accepted fresh
 answer_by (Some fault) fresh = answer.Refused fault
 
-unfoldable pub answer_to : Core → List ℕ → Answer
+unfoldable pub answer_to : Core → List ℕ → Reply
 answer_to core line =
     if is_delta_line line
     then answer_by (refusal_of core (delta_in (text_in line))) (fresh_in_file core (delta_in (text_in line)))
@@ -82,7 +82,7 @@ answer_to core line =
     else if is_blank line then answer.Blank else answer_to_message core (message_in line)
 
 -- the answers to lines, each to the site as it is then
-abbrev pub answers_to : Core → List (List ℕ) → List Answer
+abbrev pub answers_to : Core → List (List ℕ) → List Reply
 answers_to core [] = []
 answers_to core (line ∷ lines) = answer_to core line ∷ answers_to (core_given core line) lines
 

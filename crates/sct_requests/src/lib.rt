@@ -4,12 +4,10 @@
 //! a text: it answers each, and collects those that brought the site an entry. [`ask`] answers a question.
 #![tactic(auto)]
 
-mod answers;
 mod questions;
 mod steps;
 mod words;
 
-pub use answers::Answer;
-pub use questions::{QuestionFault, Said, ask};
-pub use steps::{Given, give_all, give_kept, is_question_line};
+pub use questions::{AskResult, QuestionFault, ask};
+pub use steps::{Given, Reply, give_all, give_kept, is_question_line};
 pub use words::first_ended;

@@ -22,10 +22,10 @@ pub enum QuestionFault {
 }
 
 /// What a question came to: the site has its answer, or refuses it.
-pub type Said = Result<(), QuestionFault>;
+pub type AskResult = Result<(), QuestionFault>;
 
 // Asks the site. The error is that it is out of memory.
-fn put(site: &mut EmbeddedSite, question: Question<'_>) -> Result<Said, AllocError>
+fn put(site: &mut EmbeddedSite, question: Question<'_>) -> Result<AskResult, AllocError>
     ensures says { Says (answered (answer_to_question question.entry site.old)) result site.new.answer }
     ensures core { site.new.core ≡ site.old.core }
     ensures watched { asked.watched_after_answer question.entry site.old ≡ site.old.watched → site.new.watched ≡ site.old.watched }
@@ -38,7 +38,7 @@ fn put(site: &mut EmbeddedSite, question: Question<'_>) -> Result<Said, AllocErr
 }
 
 // Asks to evaluate what is new. The answer is empty.
-fn ask_to_evaluate(site: &mut EmbeddedSite) -> Result<Said, AllocError>
+fn ask_to_evaluate(site: &mut EmbeddedSite) -> Result<AskResult, AllocError>
     ensures says { Says (Ok []) result site.new.answer }
     ensures core { site.new.core ≡ site.old.core }
     ensures watched { site.new.watched ≡ site.old.watched }
@@ -51,7 +51,7 @@ fn ask_to_evaluate(site: &mut EmbeddedSite) -> Result<Said, AllocError>
 }
 
 // Asks for what changed.
-fn ask_changes(site: &mut EmbeddedSite) -> Result<Said, AllocError>
+fn ask_changes(site: &mut EmbeddedSite) -> Result<AskResult, AllocError>
     ensures says { Says (Ok (changes_since site.old.watched site.old.core.arrivals)) result site.new.answer }
     ensures core { site.new.core ≡ site.old.core }
     ensures watched { OnOk result (site.new.watched ≡ Some (length site.old.core.arrivals)) }
@@ -63,7 +63,7 @@ fn ask_changes(site: &mut EmbeddedSite) -> Result<Said, AllocError>
 }
 
 // Asks a question of one word.
-fn ask_named(site: &mut EmbeddedSite, name: &[u8]) -> Result<Said, AllocError>
+fn ask_named(site: &mut EmbeddedSite, name: &[u8]) -> Result<AskResult, AllocError>
     ensures says { Says (answer_named (record { core = site.old.core; watched = site.old.watched }) name.now) result site.new.answer }
     ensures core { site.new.core ≡ site.old.core }
     ensures watched { OnOk result (site.new.watched ≡ watched_after (record { core = site.old.core; watched = site.old.watched }) name.now) }
@@ -88,7 +88,7 @@ fn ask_named(site: &mut EmbeddedSite, name: &[u8]) -> Result<Said, AllocError>
 }
 
 // Asks for the report on the list at the end of the words, in which tabs stand for line feeds.
-fn ask_report(alloc: Global, site: &mut EmbeddedSite, words: &[u8]) -> Result<Said, AllocError>
+fn ask_report(alloc: Global, site: &mut EmbeddedSite, words: &[u8]) -> Result<AskResult, AllocError>
     ensures says { Says (report_asked (messages_of site.old.core.arrivals) (two_parts words.now)) result site.new.answer }
     ensures core { site.new.core ≡ site.old.core }
     ensures watched { site.new.watched ≡ site.old.watched }
@@ -111,7 +111,7 @@ fn ask_report(alloc: Global, site: &mut EmbeddedSite, words: &[u8]) -> Result<Sa
 }
 
 // Asks for the delta above a version vector.
-fn ask_cut(site: &mut EmbeddedSite, words: &[u8]) -> Result<Said, AllocError>
+fn ask_cut(site: &mut EmbeddedSite, words: &[u8]) -> Result<AskResult, AllocError>
     ensures says { Says (about (one_word words.now) (λ have. cut_answer have site.old.core.arrivals)) result site.new.answer }
     ensures core { site.new.core ≡ site.old.core }
     ensures watched { site.new.watched ≡ site.old.watched }
@@ -123,7 +123,7 @@ fn ask_cut(site: &mut EmbeddedSite, words: &[u8]) -> Result<Said, AllocError>
 }
 
 // Asks for the line of a bank.
-fn ask_bank(site: &mut EmbeddedSite, words: &[u8]) -> Result<Said, AllocError>
+fn ask_bank(site: &mut EmbeddedSite, words: &[u8]) -> Result<AskResult, AllocError>
     ensures says { Says (about (one_word words.now) (λ bank. bank_answer bank (messages_of site.old.core.arrivals))) result site.new.answer }
     ensures core { site.new.core ≡ site.old.core }
     ensures watched { site.new.watched ≡ site.old.watched }
@@ -135,7 +135,7 @@ fn ask_bank(site: &mut EmbeddedSite, words: &[u8]) -> Result<Said, AllocError>
 }
 
 // Asks for the lines of a transfer.
-fn ask_transfer(site: &mut EmbeddedSite, words: &[u8]) -> Result<Said, AllocError>
+fn ask_transfer(site: &mut EmbeddedSite, words: &[u8]) -> Result<AskResult, AllocError>
     ensures says { Says (about (two_parts words.now) (λ parts. transfer_answer parts.0 parts.1 (messages_of site.old.core.arrivals))) result site.new.answer }
     ensures core { site.new.core ≡ site.old.core }
     ensures watched { site.new.watched ≡ site.old.watched }
@@ -147,7 +147,7 @@ fn ask_transfer(site: &mut EmbeddedSite, words: &[u8]) -> Result<Said, AllocErro
 }
 
 // Asks for the messages on a transfer.
-fn ask_messages(site: &mut EmbeddedSite, words: &[u8]) -> Result<Said, AllocError>
+fn ask_messages(site: &mut EmbeddedSite, words: &[u8]) -> Result<AskResult, AllocError>
     ensures says { Says (about (two_parts words.now) (λ parts. messages_answer parts.0 parts.1 (messages_of site.old.core.arrivals))) result site.new.answer }
     ensures core { site.new.core ≡ site.old.core }
     ensures watched { site.new.watched ≡ site.old.watched }
@@ -164,7 +164,7 @@ fn ask_about(
     site: &mut EmbeddedSite,
     name: &[u8],
     words: &[u8],
-) -> Result<Said, AllocError>
+) -> Result<AskResult, AllocError>
     ensures says { Says (answer_about (record { core = site.old.core; watched = site.old.watched }) name.now words.now) result site.new.answer }
     ensures core { site.new.core ≡ site.old.core }
     ensures watched { site.new.watched ≡ site.old.watched }
@@ -186,7 +186,7 @@ fn ask_about(
 
 /// Asks a question. The error is that it is out of memory.
 #[tactic(auto, unfolding(crate::specs::Questions::answer_asked))]
-pub fn ask(alloc: Global, site: &mut EmbeddedSite, question: &[u8]) -> Result<Said, AllocError>
+pub fn ask(alloc: Global, site: &mut EmbeddedSite, question: &[u8]) -> Result<AskResult, AllocError>
     ensures says { Says (answer_asked (record { core = site.old.core; watched = site.old.watched }) question.now) result site.new.answer }
     ensures core { site.new.core ≡ site.old.core }
     ensures watched { OnOk result (site.new.watched ≡ watched_after (record { core = site.old.core; watched = site.old.watched }) question.now) }

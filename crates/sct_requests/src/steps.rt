@@ -1,4 +1,4 @@
-//! A site is given lines.
+//! A site is given lines, and replies to each.
 ghost use Rattle.std.specs.Prelude.{◌≡◌, ◌++◌, ◌∷◌, [], map, IfOk, OnOk, OnErr, if◌then◌else◌};
 ghost use Rattle.sct_delta.specs.DeltaText.{delta_in};
 ghost use Rattle.sct_exchange.specs.Rounds.{refusal_of};
@@ -6,12 +6,33 @@ ghost use Rattle.sct_journal.specs.Kept.{IsLine, ended_lines, kept};
 ghost use Rattle.sct_json.specs.Reading.{message_in};
 ghost use Rattle.sct_requests.specs.Steps.{answer_by, answer_to, answer_to_message, answers_to, brings, brought, core_after, core_given, core_offered, core_with_message, fresh_in_file, is_delta_line, is_question_line, text_in, with_feeds};
 
-use crate::answers::Answer;
 use crate::words::first_ended;
+use sct_delta::DeltaFault;
 use sct_embed::{EmbedFault, EmbeddedSite};
 use sct_journal::{Batch, first_kept};
+use sct_json::JsonFault;
 use sct_lines::is_blank_line;
+use sct_site::Took;
 use std::alloc::{AllocError, Global};
+
+/// The reply to a line.
+#[derive(Debug, Drop)]
+pub enum Reply {
+    /// It is blank, and nothing is done.
+    Blank,
+    /// It is a question, which changes nothing. [`ask`] answers it.
+    ///
+    /// [`ask`]: crate::ask
+    Asked,
+    /// It is a message, and the site took it, or held it already.
+    Took(Took),
+    /// It is not a valid message, and why.
+    Unread(JsonFault),
+    /// It is a delta that the site accepted, with so many new entries.
+    Accepted(u64),
+    /// It is a delta that the site refuses, and why.
+    Refused(DeltaFault),
+}
 
 /// A text of several lines that is one line: a line feed in place of each tab.
 pub(crate) fn with_feeds(alloc: Global, line: &[u8]) -> Result<Vec<u8>, AllocError>
@@ -38,20 +59,20 @@ pub fn is_question_line(line: &[u8]) -> bool
 }
 
 // The site is given a message.
-fn take_line(site: &mut EmbeddedSite, line: &[u8]) -> Result<Answer, AllocError>
+fn take_line(site: &mut EmbeddedSite, line: &[u8]) -> Result<Reply, AllocError>
     ensures core { OnOk result (site.new.core ≡ core_with_message site.old.core (message_in line.now)) }
     ensures answer { IfOk result (λ answer. answer ≡ answer_to_message site.old.core (message_in line.now)) }
     ensures watched { site.new.watched ≡ site.old.watched }
 {
     match site.take(line) {
-        Ok(took) => Ok(Answer::Took(took)),
-        Err(EmbedFault::Message(fault)) => Ok(Answer::Unread(fault)),
+        Ok(took) => Ok(Reply::Took(took)),
+        Err(EmbedFault::Message(fault)) => Ok(Reply::Unread(fault)),
         Err(_) => Err(AllocError),
     }
 }
 
 // The site is offered a delta.
-fn accept_line(alloc: Global, site: &mut EmbeddedSite, line: &[u8]) -> Result<Answer, AllocError>
+fn accept_line(alloc: Global, site: &mut EmbeddedSite, line: &[u8]) -> Result<Reply, AllocError>
     ensures core { OnOk result (site.new.core ≡ core_offered site.old.core (delta_in (text_in line.now))) }
     ensures answer { IfOk result (λ answer. answer
         ≡ answer_by (refusal_of site.old.core (delta_in (text_in line.now))) (fresh_in_file site.old.core (delta_in (text_in line.now)))) }
@@ -60,19 +81,15 @@ fn accept_line(alloc: Global, site: &mut EmbeddedSite, line: &[u8]) -> Result<An
     let mut text = with_feeds(alloc, line)?;
     text.push(b'\n')?;
     match site.accept(&text) {
-        Ok(accepted) => Ok(Answer::Accepted(accepted.fresh)),
-        Err(EmbedFault::Delta(fault)) => Ok(Answer::Refused(fault)),
+        Ok(accepted) => Ok(Reply::Accepted(accepted.fresh)),
+        Err(EmbedFault::Delta(fault)) => Ok(Reply::Refused(fault)),
         Err(_) => Err(AllocError),
     }
 }
 
 // The site is given a line.
 #[tactic(auto, unfolding(crate::specs::Steps::core_given, crate::specs::Steps::answer_to))]
-pub(crate) fn give(
-    alloc: Global,
-    site: &mut EmbeddedSite,
-    line: &[u8],
-) -> Result<Answer, AllocError>
+pub(crate) fn give(alloc: Global, site: &mut EmbeddedSite, line: &[u8]) -> Result<Reply, AllocError>
     ensures core { OnOk result (site.new.core ≡ core_given site.old.core line.now) }
     ensures answer { IfOk result (λ answer. answer ≡ answer_to site.old.core line.now) }
     ensures watched { site.new.watched ≡ site.old.watched }
@@ -80,9 +97,9 @@ pub(crate) fn give(
     if is_delta_line(line) {
         accept_line(alloc, site, line)
     } else if is_question_line(line) {
-        Ok(Answer::Asked)
+        Ok(Reply::Asked)
     } else if is_blank_line(line) {
-        Ok(Answer::Blank)
+        Ok(Reply::Blank)
     } else {
         take_line(site, line)
     }
@@ -94,7 +111,7 @@ fn give_and_see(
     alloc: Global,
     site: &mut EmbeddedSite,
     line: &[u8],
-) -> Result<(Answer, bool), AllocError>
+) -> Result<(Reply, bool), AllocError>
     ensures core { OnOk result (site.new.core ≡ core_given site.old.core line.now) }
     ensures answer { IfOk result (λ given. given.0 ≡ answer_to site.old.core line.now) }
     ensures brings { IfOk result (λ given. given.1 ≡ brings site.old.core line.now) }
@@ -105,7 +122,7 @@ fn give_and_see(
     Ok((answer, before < site.count()))
 }
 
-/// The site is given the lines that the bytes of a file keep.
+/// The site is given the lines that the bytes of a file keep. The error is that it is out of memory; lines before may be taken.
 pub fn give_kept(alloc: Global, site: &mut EmbeddedSite, file: &[u8]) -> Result<(), AllocError>
     ensures core { OnOk result (site.new.core ≡ core_after site.old.core (kept file.now)) }
     ensures watched { site.new.watched ≡ site.old.watched }
@@ -132,12 +149,13 @@ fn push_if(batch: &mut Batch, line: &[u8], is_wanted: bool) -> Result<(), AllocE
 /// What a site made of lines.
 #[derive(Drop)]
 pub struct Given {
-    pub answers: Vec<Answer>,
+    pub answers: Vec<Reply>,
     /// The lines that brought it an entry.
     pub brought: Batch,
 }
 
-/// The site is given the lines of a text that line feeds end, one after another.
+/// The site is given the lines of a text that line feeds end, one after another. The error is that it is out of memory; lines
+/// before may be taken.
 pub fn give_all(alloc: Global, site: &mut EmbeddedSite, text: &[u8]) -> Result<Given, AllocError>
     ensures core { OnOk result (site.new.core ≡ core_after site.old.core (ended_lines text.now)) }
     ensures answers { IfOk result (λ given. given.answers.items ≡ answers_to site.old.core (ended_lines text.now)) }

@@ -5,15 +5,14 @@ ghost use Rattle.sct_desk.specs.Passes.{IsOf};
 ghost use Rattle.sct_desk.specs.Tilings.{AreOurs};
 
 mod answers;
-mod pending;
 mod scenes;
 mod shared;
 
 use scenes::{first_transfer, open_one, receipt_of, sizes_closed, take_some};
 use sct_case::Status;
 use sct_desk::{Desk, DeskFault, NotClosed, Query, Receipt, Site};
-use sct_history::{History, Track};
 use sct_message::TransferKey;
+use sct_site::{History, Track};
 use std::alloc::Global;
 use std::marker::Brand;
 use std::process::Abort;

@@ -1,4 +1,10 @@
-//! Readers and writers in memory that are slow, that fail after a known byte, or that never end.
+//! Readers and writers in memory that are slow, that fail after a known byte, or that never end, and disks in memory.
+ghost use Rattle.std.specs.Prelude.{◌≡◌, [], IsTrue};
+ghost use Rattle.sct_journal.specs.declared.error.JournalError.TheVariants as error;
+
+use sct_journal::{Disks, JournalError};
+use sqlite_disk::Memory;
+use std::alloc::Global;
 use std::io;
 
 /// Gives its bytes one at a time, and then ends or fails.
@@ -59,5 +65,28 @@ impl io::Write for Taking {
 
     fn flush(&mut self) -> io::Result<()> {
         Ok(())
+    }
+}
+
+/// Has a new file in memory for each journal, or none, since another process has it.
+#[derive(Drop)]
+pub struct InMemory {
+    pub alloc: Global,
+    pub is_busy: bool,
+}
+
+impl Disks for InMemory {
+    type File = Memory;
+
+    ghost holds = { λ _ _. [] };
+
+    ghost fails = { λ disks _ e. IsTrue disks.is_busy × (e ≡ error.Busy) };
+
+    fn open(self, _path: &str) -> Result<Memory, JournalError> {
+        let InMemory { alloc, is_busy } = self;
+        if is_busy {
+            return Err(JournalError::Busy);
+        }
+        Ok(Memory::new(alloc))
     }
 }

@@ -5,8 +5,6 @@
 #[cfg(test)]
 mod desks;
 #[cfg(test)]
-mod disks;
-#[cfg(test)]
 mod fakes;
 #[cfg(test)]
 mod gates;

@@ -6,10 +6,9 @@ ghost use Rattle.sct_set.specs.Contents.{contents_of};
 ghost use Rattle.sct_workers.specs.Kept.{AllShown, Keeps};
 
 use sct_desk::{Desk, Receipt, Site};
-use sct_history::{History, Track};
 use sct_json::read_message;
 use sct_message::Message;
-use sct_site::{SiteCore, Took};
+use sct_site::{History, SiteCore, Took, Track};
 use sct_workers::*;
 use std::alloc::Global;
 use std::marker::Brand;

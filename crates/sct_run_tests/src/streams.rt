@@ -98,11 +98,11 @@ fn are_read(alloc: Global, row: &Limited) -> bool {
         fails: row.fails,
     };
     let read = read_over::<Brand>(alloc, &mut giving, row.limit, Blank::new(1));
-    let told = match &read {
+    let was_read = match &read {
         Ok(bytes) => Ok(bytes.as_slice()),
         Err(fault) => Err(*fault),
     };
-    told == row.read && giving.left.len() == row.left
+    was_read == row.read && giving.left.len() == row.left
 }
 
 #[test]
@@ -152,13 +152,14 @@ fn write_over<L: Ledger>(taking: &mut Taking, text: &[u8], blank: Blank) -> Resu
 }
 
 // Whether a text is written as far as there is room: all of it, or a prefix of it before a write fails.
-fn is_written(alloc: Global, text: &[u8], room: usize, told: Result<(), Failed>) -> bool {
+fn is_written(alloc: Global, text: &[u8], room: usize, ended: Result<(), Failed>) -> bool {
     let mut taking = Taking {
         held: Vec::new(alloc),
         room,
     };
     let (front, _) = text.split_at(room.min(text.len()));
-    write_over::<Brand>(&mut taking, text, Blank::new(1)) == told && taking.held.as_slice() == front
+    write_over::<Brand>(&mut taking, text, Blank::new(1)) == ended
+        && taking.held.as_slice() == front
 }
 
 static TEXT: &[u8] = b"T|BANKDEFFXXX|T1|PENDING\n";

@@ -56,9 +56,9 @@ fn is_filled(alloc: Global, core: &SiteCore, row: &Row) -> Option<bool> {
 }
 
 // Whether there is a site for each input, and the refused lines are reported as the row says.
-fn are_told(sites: &Sites, row: &Row) -> bool {
+fn are_reported(sites: &Sites, row: &Row) -> bool {
     sites.cores.len() == row.inputs.len()
-        && sites.refusals.text() == row.told
+        && sites.refusals.text() == row.refused_text
         && sites.refusals.count() == row.refused
 }
 
@@ -71,7 +71,7 @@ fn expect_row<G: Gate + Sync, R: Threads + Wait + Abort + Sync>(
     row: &Row,
 ) {
     let sites = filled(rt, alloc, gate, row.inputs).expect(rt, "sites");
-    assert!(rt; are_told(&sites, row));
+    assert!(rt; are_reported(&sites, row));
     for core in &sites.cores {
         assert!(rt; is_filled(alloc, core, row) == Some(true));
     }

@@ -1,14 +1,49 @@
-//! One line of a script: its event, or why the line is refused.
-ghost use Rattle.std.specs.Prelude.{◌≡◌, IfOk};
-ghost use Rattle.sct_script.specs.Events.{cut_event_in, hand_event_in, happening_in, take_event_in, told_by};
+//! One line of a script: its fields, and its event or why the line is refused.
+ghost use Rattle.std.specs.Prelude.{◌≡◌, IfOk, option_map};
+ghost use Rattle.sct_script.specs.Events.{
+  cut_event_in,
+  hand_event_in,
+  happening_in,
+  site_before_space,
+  site_named,
+  site_number_in,
+  take_event_in,
+  told_by,
+};
 
 use crate::fault::LineFault;
-use crate::fields::{site_before_space, site_of};
-use sct_delta::{after_prefix, number_before_space, read_vector};
+use sct_delta::{after_prefix, number_before_space, number_of, read_vector};
 use sct_lines::read_line;
 use sct_world::Event;
 use std::alloc::{AllocError, Global};
 use std::sync::Arc;
+
+// The site of this number, or none if the number is not below 65,536.
+fn site_named(number: u64) -> Option<u16>
+    ensures { result ≡ site_named number }
+{
+    u16::try_from(number).ok()
+}
+
+/// The site that a text names, whether or not the world has it. None if the text is not a number below 65,536.
+#[tactic(auto, unfolding(crate::specs::Events::site_number_in))]
+pub fn site_of(text: &[u8]) -> Option<u16>
+    ensures { result ≡ site_number_in text.now }
+{
+    let number = number_of(text)?;
+    site_named(number)
+}
+
+/// The site before the first space of a text, and the bytes after that space. None if no
+/// number below 65,536 comes before a space.
+#[tactic(auto, unfolding(crate::specs::Events::site_before_space))]
+pub fn site_before_space(text: &[u8]) -> Option<(u16, &[u8])>
+    ensures { option_map (λ field. (field.0, field.1.now)) result ≡ site_before_space text.now }
+{
+    let (number, rest) = number_before_space(text)?;
+    let site = site_named(number)?;
+    Some((site, rest))
+}
 
 // Reads the rest of a take: a site, and a JSON text of the message.
 fn read_take(alloc: Global, text: &[u8]) -> Result<Result<Event, LineFault>, AllocError>

@@ -7,14 +7,12 @@
 
 mod event;
 mod fault;
-mod fields;
 mod outcomes;
-mod refusal_text;
 mod replays;
 mod script;
 
+pub use event::{site_before_space, site_of};
 pub use fault::{LineFault, ScriptFault};
-pub use fields::{site_before_space, site_of};
 pub use outcomes::push_delta_fault;
 pub use replays::replay;
 pub use script::{Script, read_script};

@@ -9,8 +9,8 @@ use Rattle.sct_embed.specs.Faults.{embed_fault_number, embed_fault_place}
 use Rattle.sct_requests.specs.Questions.{answer_asked, watched_site_given}
 use Rattle.sct_requests.specs.WatchedSites.{WatchedSite}
 use Rattle.sct_requests.specs.Steps.{answer_to, is_question_line}
-use Rattle.sct_requests.specs.declared.answers.Answer.{Answer}
-use Rattle.sct_requests.specs.declared.answers.Answer.TheVariants as answer
+use Rattle.sct_requests.specs.declared.steps.Reply.{Reply}
+use Rattle.sct_requests.specs.declared.steps.Reply.TheVariants as answer
 use Rattle.sct_requests.specs.declared.questions.QuestionFault.{QuestionFault}
 use Rattle.sct_requests.specs.declared.questions.QuestionFault.TheVariants as fault
 
@@ -20,8 +20,8 @@ abbrev pub took_text : Took → List ℕ
 took_text (took.Taken n) = codes "TAKEN " ++ decimal n
 took_text took.Repeat = codes "REPEAT"
 
--- the reply of an answer
-unfoldable pub reply_text : Answer → List ℕ
+-- the text of a reply
+unfoldable pub reply_text : Reply → List ℕ
 reply_text answer.Blank = []
 reply_text answer.Asked = []
 reply_text (answer.Took taken) = took_text taken
@@ -29,7 +29,7 @@ reply_text (answer.Unread reason) = codes "REFUSED " ++ json_fault_text reason
 reply_text (answer.Accepted fresh) = codes "ACCEPTED " ++ decimal fresh
 reply_text (answer.Refused reason) = codes "REFUSED " ++ refusal_text reason
 
-unfoldable pub reply_line : Answer → List ℕ
+unfoldable pub reply_line : Reply → List ℕ
 reply_line answer = reply_text answer ++ codes "\n"
 
 -- ---- a question

@@ -5,7 +5,7 @@ ghost use Rattle.sct_serve.specs.Replies.{place_text, question_refusal, question
 
 use sct_exchange::push_refusal;
 use sct_lines::push_json_fault;
-use sct_requests::{Answer, QuestionFault};
+use sct_requests::{QuestionFault, Reply};
 use sct_site::Took;
 use std::alloc::{AllocError, Global};
 use std::fmt::Write;
@@ -19,21 +19,21 @@ fn push_took(text: &mut String, took: &Took) -> Result<(), AllocError>
     }
 }
 
-// Appends the reply of an answer.
+// Appends the text of a reply.
 #[tactic(auto, unfolding(crate::specs::Replies::reply_text))]
-fn push_reply(alloc: Global, text: &mut String, answer: &Answer) -> Result<(), AllocError>
-    ensures { IfOk result (λ _. string_bytes text.new ≡ string_bytes text.old ++ reply_text answer.now) }
+fn push_reply(alloc: Global, text: &mut String, reply: &Reply) -> Result<(), AllocError>
+    ensures { IfOk result (λ _. string_bytes text.new ≡ string_bytes text.old ++ reply_text reply.now) }
 {
-    match answer {
-        Answer::Blank => Ok(()),
-        Answer::Asked => Ok(()),
-        Answer::Took(took) => push_took(text, took),
-        Answer::Unread(fault) => {
+    match reply {
+        Reply::Blank => Ok(()),
+        Reply::Asked => Ok(()),
+        Reply::Took(took) => push_took(text, took),
+        Reply::Unread(fault) => {
             text.push_str("REFUSED ")?;
             push_json_fault(alloc, text, fault)
         }
-        Answer::Accepted(fresh) => write!(text, "ACCEPTED {fresh}"),
-        Answer::Refused(fault) => {
+        Reply::Accepted(fresh) => write!(text, "ACCEPTED {fresh}"),
+        Reply::Refused(fault) => {
             text.push_str("REFUSED ")?;
             push_refusal(text, fault)
         }
@@ -41,20 +41,20 @@ fn push_reply(alloc: Global, text: &mut String, answer: &Answer) -> Result<(), A
 }
 
 #[tactic(auto, unfolding(crate::specs::Replies::reply_line))]
-fn push_reply_line(alloc: Global, text: &mut String, answer: &Answer) -> Result<(), AllocError>
-    ensures { IfOk result (λ _. string_bytes text.new ≡ string_bytes text.old ++ reply_line answer.now) }
+fn push_reply_line(alloc: Global, text: &mut String, reply: &Reply) -> Result<(), AllocError>
+    ensures { IfOk result (λ _. string_bytes text.new ≡ string_bytes text.old ++ reply_line reply.now) }
 {
-    push_reply(alloc, text, answer)?;
+    push_reply(alloc, text, reply)?;
     text.push_str("\n")
 }
 
-/// The replies of answers, a line for each. The error is that it is out of memory.
-pub(crate) fn write_replies(alloc: Global, answers: &[Answer]) -> Result<String, AllocError>
-    ensures { IfOk result (λ text. string_bytes text ≡ flat_map reply_line answers.now) }
+/// The texts of replies, a line for each. The error is that it is out of memory.
+pub(crate) fn write_replies(alloc: Global, replies: &[Reply]) -> Result<String, AllocError>
+    ensures { IfOk result (λ text. string_bytes text ≡ flat_map reply_line replies.now) }
 {
     let mut text = String::new(alloc);
-    for answer in answers {
-        push_reply_line(alloc, &mut text, answer)?;
+    for reply in replies {
+        push_reply_line(alloc, &mut text, reply)?;
     }
     Ok(text)
 }

@@ -16,7 +16,7 @@ ghost use Rattle.sct_set.specs.Contradictions.{contradicted_identities, is_dispu
 ghost use Rattle.sct_set.specs.Digest.{digest_of};
 ghost use Rattle.sct_set.specs.Drafts.{against_in, drafts_alike, drafts_in, drafts_of, finds, IsIndexBy};
 ghost use Rattle.sct_set.specs.Filing.{is_first_in, with_new};
-ghost use Rattle.sct_set.specs.declared.arrivals.Front.TheVariants as front;
+ghost use Rattle.sct_set.specs.declared.arrivals.Filing.TheVariants as front;
 
 use crate::added::Added;
 use crate::buckets::{Bucket, file, items_at, unfile};
@@ -79,7 +79,7 @@ fn push_handle(messages: &mut Vec<Arc<Message>>, message: &Arc<Message>) -> Resu
 
 /// How a message compares with the first message of its identity.
 #[derive(Drop)]
-pub(crate) enum Front {
+pub(crate) enum Filing {
     /// It is the first, and was filed.
     Filed,
     /// The first is the same message. Nothing was filed.
@@ -93,7 +93,7 @@ fn file_at_front<K: Eq + Hash + Drop>(
     index: &mut IndexMap<K, Bucket<Arc<Message>>>,
     key: K,
     message: &Arc<Message>,
-) -> Result<Front, AllocError>
+) -> Result<Filing, AllocError>
     ensures filed { IfOk result (λ at. at ≡ front.Filed → (k : K) → drafts_in (bucket K.eq index.new k)
         ≡ (if K.eq key k then arc_value message.now ∷ [] else drafts_in (bucket K.eq index.old k))) }
     ensures none { IfOk result (λ at. at ≡ front.Filed → bucket K.eq index.old key ≡ []) }
@@ -110,9 +110,9 @@ fn file_at_front<K: Eq + Hash + Drop>(
     match index.entry(key)? {
         Entry::Occupied(entry) => {
             if is_first(message, entry.get().items()) {
-                Ok(Front::Same)
+                Ok(Filing::Same)
             } else {
-                Ok(Front::Other)
+                Ok(Filing::Other)
             }
         }
         Entry::Vacant(entry) => {
@@ -124,13 +124,13 @@ fn file_at_front<K: Eq + Hash + Drop>(
                 }
             };
             entry.insert(Bucket::of(handle));
-            Ok(Front::Filed)
+            Ok(Filing::Filed)
         }
     }
 }
 
 // Files a message as the first of its identity, with one look-up. If out of memory, the index holds what it held.
-fn file_first(index: &mut ByIdentity, message: &Arc<Message>) -> Result<Front, AllocError>
+fn file_first(index: &mut ByIdentity, message: &Arc<Message>) -> Result<Filing, AllocError>
     ensures filed { IfOk result (λ at. at ≡ front.Filed → (ds : List DraftOf)
         → IsIndexBy identity_of same_identity index.old ds
         → IsIndexBy identity_of same_identity index.new (ds ++ arc_value message.now ∷ [])) }
@@ -348,15 +348,15 @@ impl Arrivals {
         ensures err { OnErr result (self.new ≡ self.old) }
     {
         match file_first(&mut self.by_identity, message)? {
-            Front::Filed => {
+            Filing::Filed => {
                 if let Err(refused) = push_handle(&mut self.messages, message) {
                     unfile_by_identity(&mut self.by_identity, message);
                     return Err(refused);
                 }
                 Ok(Added::Fresh)
             }
-            Front::Same => Ok(Added::Repeat),
-            Front::Other => self.add_behind(message),
+            Filing::Same => Ok(Added::Repeat),
+            Filing::Other => self.add_behind(message),
         }
     }
 

@@ -9,33 +9,33 @@ use std::mem::replace;
 
 // Where the items of a bucket lie: a single one in place, more in an allocation.
 #[derive(Drop)]
-enum Place<V> {
+enum BucketItems<V> {
     Empty,
     One([V; 1]),
     Several(Vec<V>),
 }
 
-impl<V: Drop> Place<V> {
+impl<V: Drop> BucketItems<V> {
     // Appends an item. The second item makes an allocation for both. If out of memory, nothing changes.
     fn push(&mut self, alloc: Global, item: V) -> Result<(), AllocError>
         ensures ok { OnOk result (placed self.new ≡ placed self.old ++ item ∷ []) }
         ensures err { OnErr result (placed self.new ≡ placed self.old) }
         ensures kept { IsPlaced self.old → IsPlaced self.new }
     {
-        match replace(self, Place::Empty) {
-            Place::Empty => *self = Place::One([item]),
-            Place::One([first]) => {
+        match replace(self, BucketItems::Empty) {
+            BucketItems::Empty => *self = BucketItems::One([item]),
+            BucketItems::One([first]) => {
                 let Ok(mut items) = Vec::with_capacity(alloc, 2) else {
-                    *self = Place::One([first]);
+                    *self = BucketItems::One([first]);
                     return Err(AllocError);
                 };
                 items.push_reserved(first);
                 items.push_reserved(item);
-                *self = Place::Several(items);
+                *self = BucketItems::Several(items);
             }
-            Place::Several(mut items) => {
+            BucketItems::Several(mut items) => {
                 let pushed = items.push(item);
-                *self = Place::Several(items);
+                *self = BucketItems::Several(items);
                 pushed?;
             }
         }
@@ -47,12 +47,12 @@ impl<V: Drop> Place<V> {
         ensures taken { IsPlaced self.old → placed self.new ≡ take (length (placed self.old) - 1) (placed self.old) }
         ensures kept { IsPlaced self.old → IsPlaced self.new }
     {
-        match replace(self, Place::Empty) {
-            Place::Empty => {}
-            Place::One(item) => drop(item),
-            Place::Several(mut items) => {
+        match replace(self, BucketItems::Empty) {
+            BucketItems::Empty => {}
+            BucketItems::One(item) => drop(item),
+            BucketItems::Several(mut items) => {
                 items.pop();
-                *self = Place::Several(items);
+                *self = BucketItems::Several(items);
             }
         }
     }
@@ -61,7 +61,7 @@ impl<V: Drop> Place<V> {
 /// The items of one key, in the order in which they were filed. A single item takes no allocation.
 #[derive(Drop)]
 pub struct Bucket<V> {
-    place: Place<V>,
+    place: BucketItems<V>,
 }
 
 impl<V> Model for Bucket<V> {
@@ -81,7 +81,7 @@ impl<V> Bucket<V> {
         ensures { result ≡ item ∷ [] }
     {
         Bucket {
-            place: Place::One([item]),
+            place: BucketItems::One([item]),
         }
     }
 
@@ -90,9 +90,9 @@ impl<V> Bucket<V> {
         ensures { result.now ≡ self.now }
     {
         match &self.place {
-            Place::Empty => &[],
-            Place::One(item) => item,
-            Place::Several(items) => items,
+            BucketItems::Empty => &[],
+            BucketItems::One(item) => item,
+            BucketItems::Several(items) => items,
         }
     }
 

@@ -8,7 +8,7 @@ use thiserror::Error;
 /// 39: out of memory. The failed call has changed nothing.
 #[derive(Debug, Drop, PartialEq, Eq, Error)]
 pub enum SetFault {
-    #[error("memory is wanting")]
+    #[error("out of memory")]
     Memory,
 }
 
@@ -26,5 +26,12 @@ impl SetFault {
 impl From<AllocError> for SetFault {
     fn from(_: AllocError) -> Self {
         SetFault::Memory
+    }
+}
+
+/// Callers whose only error is out of memory hand the fault on with `?`.
+impl From<SetFault> for AllocError {
+    fn from(_: SetFault) -> Self {
+        AllocError
     }
 }

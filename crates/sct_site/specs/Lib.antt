@@ -1,5 +1,7 @@
--- The definitions of one site.
+-- The definitions of one site and of its history.
 pub mod Cores
 pub mod Inside
 pub mod Laws
 pub mod Ranges
+pub mod Rules
+pub mod Sights

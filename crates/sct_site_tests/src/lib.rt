@@ -5,8 +5,6 @@
 #[cfg(test)]
 mod deltas;
 #[cfg(test)]
-mod histories;
-#[cfg(test)]
 mod scripts;
 #[cfg(test)]
 mod sites;

@@ -1,4 +1,5 @@
-//! What a site takes, accepts, refuses and cuts, with ample memory. `tests/data/cases/scripts.txt` has what events show of it.
+//! What a site takes, accepts, refuses and cuts, with ample memory, and its history in one thread. `tests/data/cases/scripts.txt` has
+//! what events show of it.
 
 mod scenes;
 
@@ -173,4 +174,13 @@ fn cuts(alloc: Global) -> Option<bool> {
 #[test]
 fn cuts_what_came_from_others(rt: HostRuntime) {
     assert_eq!(rt; cuts(rt.alloc()), Some(true));
+}
+
+#[test]
+fn a_new_history_is_empty(rt: HostRuntime) {
+    let (_history, track) = History::open();
+    assert_eq!(rt; track.len(), 0);
+    let copy = track.again();
+    assert!(rt; track.begins(&copy));
+    assert_eq!(rt; track.longer(&copy).len(), 0);
 }

@@ -36,13 +36,13 @@ impl ArchiveTrial {
 
     // Returns how many messages the archive holds, how many of the list it holds, and its text.
     fn tell(&self) -> Result<Vec<u8>> {
-        let mut told = format!(in self.alloc;
+        let mut text = format!(in self.alloc;
             "{} {}\n",
             self.archive.len(),
             self.held()
         )?.into_bytes();
-        told.extend_from_slice(&self.archive.text()?)?;
-        Ok(told)
+        text.extend_from_slice(&self.archive.text()?)?;
+        Ok(text)
     }
 
     // Appends a message to the list.

@@ -2,7 +2,6 @@
 
 mod asking;
 mod calls;
-mod opening;
 mod other;
 mod texts;
 mod times;

@@ -50,14 +50,12 @@
 
 mod archives;
 mod desks;
-mod groups;
 mod views;
 mod worlds;
 
 use anyhow::{Result, bail};
 use archives::try_archives;
 use desks::try_desks;
-use groups::try_groups;
 use std::alloc::Global;
 use std::env;
 use std::io::{BufRead, BufReader, BufWriter, Write};
@@ -65,7 +63,7 @@ use std::sync::Wait;
 use std::thread::Threads;
 use std::time::Clock;
 use views::try_views;
-use worlds::try_worlds;
+use worlds::{try_groups, try_worlds};
 
 // Does what the words say.
 fn try_words<R: Threads + Wait + Clock + Sync, B: BufRead + Drop, W: Write>(

@@ -54,9 +54,9 @@ impl ViewTrial {
 
     // Returns both texts of the view.
     fn tell(&self) -> Result<Vec<u8>> {
-        let mut told = self.view.status_text()?;
-        told.extend_from_slice(&self.view.totals_text()?)?;
-        Ok(told)
+        let mut text = self.view.status_text()?;
+        text.extend_from_slice(&self.view.totals_text()?)?;
+        Ok(text)
     }
 
     // Appends a message to the batch.

@@ -32,9 +32,7 @@ fn add_fresh(held: &Archive, fresh: &mut Archive, message: &Arc<Message>) -> Res
     if held.holds(message) {
         return Ok(());
     }
-    let Ok(_) = fresh.add(message.clone()?) else {
-        return Err(AllocError);
-    };
+    fresh.add(message.clone()?)?;
     Ok(())
 }
 

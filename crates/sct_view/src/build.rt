@@ -119,15 +119,13 @@ fn archive_of(alloc: Global, messages: &[Arc<Message>]) -> Result<Archive, Alloc
     ensures { IfOk result (λ archive. archive ≡ contents_of (messages_in messages.now)) }
 {
     let mut archive = Archive::new(alloc);
-    let Ok(_) = archive.add_all(messages) else {
-        return Err(AllocError);
-    };
+    archive.add_all(messages)?;
     Ok(archive)
 }
 
 /// An archive of messages, and the same messages by transfer.
 #[derive(Drop)]
-pub(crate) struct Gathered {
+pub(crate) struct IndexedMessages {
     pub(crate) archive: Archive,
     pub(crate) index: ByTransfer,
 }
@@ -137,7 +135,7 @@ pub(crate) fn gather<R: Threads + Sync>(
     rt: &R,
     alloc: Global,
     messages: &[Arc<Message>],
-) -> Result<Gathered, AllocError>
+) -> Result<IndexedMessages, AllocError>
     ensures archive { IfOk result (λ gathered. gathered.archive ≡ contents_of (messages_in messages.now)) }
     ensures index { IfOk result (λ gathered. IsFiledBy gathered.index (messages_in messages.now)) }
 {
@@ -152,7 +150,7 @@ pub(crate) fn gather<R: Threads + Sync>(
     );
     let archive = held?;
     let index = filed?;
-    Ok(Gathered { archive, index })
+    Ok(IndexedMessages { archive, index })
 }
 
 // The case of each transfer of an archive, in the order of the index, which has the archive's messages by transfer.
@@ -203,7 +201,7 @@ fn tables_in_parts<R: Threads + Sync>(
 
 /// An archive of messages with its tables: the case of each transfer and the totals of each bank.
 #[derive(Drop)]
-pub(crate) struct Filled {
+pub(crate) struct BuiltView {
     pub(crate) archive: Archive,
     pub(crate) tables: Tables,
 }
@@ -214,11 +212,11 @@ pub(crate) fn filled_in_parts<R: Threads + Sync>(
     rt: &R,
     alloc: Global,
     messages: &[Arc<Message>],
-) -> Result<Filled, AllocError>
+) -> Result<BuiltView, AllocError>
     ensures held { IfOk result (λ filled. filled.archive ≡ contents_of (messages_in messages.now)) }
     ensures kept { IfOk result (λ filled. AreCasesOf filled.archive filled.tables.cases) }
 {
-    let Gathered { archive, index } = gather(rt, alloc, messages)?;
+    let IndexedMessages { archive, index } = gather(rt, alloc, messages)?;
     let tables = tables_in_parts(rt, alloc, &archive, index)?;
-    Ok(Filled { archive, tables })
+    Ok(BuiltView { archive, tables })
 }

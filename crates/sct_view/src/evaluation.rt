@@ -130,9 +130,7 @@ pub(crate) fn evaluate(
     let sorted = in_order(alloc, messages)?;
     let parted = part(alloc, held, fresh, sorted)?;
     let asides = identities(alloc, &parted.contradicted)?;
-    let Ok(status) = transfer_status(alloc, transfer, &parted.clean, &asides) else {
-        return Err(AllocError);
-    };
+    let status = transfer_status(alloc, transfer, &parted.clean, &asides)?;
     Ok(Case {
         clean: parted.clean,
         contradicted: parted.contradicted,

@@ -15,7 +15,7 @@ ghost use Rattle.sct_view.specs.Listed.{keys_with};
 ghost use Rattle.sct_view.specs.StatusText.{lines_on, status_text_of};
 ghost use Rattle.sct_view.specs.TotalsText.{totals_text_of};
 
-use crate::build::{Gathered, gather, halvings, planned_on};
+use crate::build::{IndexedMessages, gather, halvings, planned_on};
 use crate::by_transfer::ByTransfer;
 use crate::status_text::push_case;
 use crate::sums::{banks_in_order, lines_of, sums_of};
@@ -162,7 +162,7 @@ impl FiledArchive {
     ) -> Result<Self, CaseFault>
         ensures { IfOk result (λ filed. filed ≡ contents_of (messages_in messages.now)) }
     {
-        let Gathered { archive, index } = gather(rt, alloc, messages)?;
+        let IndexedMessages { archive, index } = gather(rt, alloc, messages)?;
         Ok(FiledArchive {
             alloc,
             archive,

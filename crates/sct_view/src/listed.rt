@@ -1,21 +1,44 @@
 //! The lists that a view gives.
-
 ghost use Rattle.std.specs.Prelude.{◌≡◌, ◌++◌, ◌||◌, filter, map, IfOk, OnOk};
 ghost use Rattle.std.specs.List.{flat_map};
 ghost use Rattle.sct_message.specs.Sets.{messages_in};
 ghost use Rattle.sct_message.specs.Transfers.{keys_of, instruction_of};
 ghost use Rattle.sct_view.specs.Answers.{cxls_named_by, recall_of, recalls_on, all_findings_of, transfers_of_bank, is_originator, is_beneficiary, found_on};
 ghost use Rattle.sct_view.specs.Kept.{kept_in, instruction_in};
-ghost use Rattle.sct_view.specs.Listed.{cxls_in, recalls_in_case};
+ghost use Rattle.sct_view.specs.Listed.{cxls_in, recalls_in_case, found_in, beside};
+ghost use Rattle.sct_case.specs.Statuses.{as_standing};
 
 use crate::case::Case;
-use crate::findings::{findings_in, push_beside};
 use crate::view::View;
-use sct_case::{CaseFault, Finding, RecallStatus, recall_statuses};
+use sct_case::{CaseFault, Finding, RecallStatus, Status, recall_statuses};
 use sct_element::{Bic, Id35};
 use sct_message::{Message, RecallKey, TransferKey, keys_are_ordered};
 use std::alloc::{AllocError, Global};
 use std::sync::Arc;
+
+/// The findings that a status holds; empty for a status other than contradicted.
+pub(crate) fn findings_in(status: &Status) -> &[Finding]
+    ensures { result.now ≡ found_in (as_standing status.now) }
+{
+    match status {
+        Status::Contradicted(found) => found,
+        _ => &[],
+    }
+}
+
+/// Appends the findings of a transfer, each with the transfer's key.
+pub(crate) fn push_beside(
+    found: &mut Vec<(TransferKey, Finding)>,
+    transfer: &TransferKey,
+    findings: &[Finding],
+) -> Result<(), AllocError>
+    ensures { OnOk result (found.new.items ≡ found.old.items ++ beside transfer.now findings.now) }
+{
+    for finding in findings {
+        found.push((transfer.copy(), finding.copy()))?;
+    }
+    Ok(())
+}
 
 // ---- one transfer
 

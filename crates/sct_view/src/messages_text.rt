@@ -7,16 +7,17 @@ ghost use Rattle.sct_view.specs.Answers.{those_on};
 use crate::view::View;
 use sct_case::CaseFault;
 use sct_message::TransferKey;
-use sct_set::{Archive, SetFault};
+use sct_set::Archive;
+use std::alloc::AllocError;
 
 impl View {
-    // The messages that are on a transfer, as an archive of their own.
-    fn archive_on(&self, transfer: &TransferKey) -> Result<Archive, SetFault>
-        ensures { IfOk result (λ archive. archive ≡ those_on self.now transfer.now) }
+    // The archive text of the messages that are on a transfer.
+    fn archive_text_on(&self, transfer: &TransferKey) -> Result<Vec<u8>, AllocError>
+        ensures { IfOk result (λ text. text.items ≡ archive_text_of (those_on self.now transfer.now)) }
     {
         let mut archive = Archive::new(self.alloc);
         archive.add_all(&self.gather(transfer, &[])?)?;
-        Ok(archive)
+        Ok(archive.text()?)
     }
 
     /// The messages that are on a transfer, clean or contradicted: their lines of the archive text, in bytes.
@@ -24,12 +25,6 @@ impl View {
     pub fn messages_text(&self, transfer: &TransferKey) -> Result<Vec<u8>, CaseFault>
         ensures { IfOk result (λ text. text.items ≡ archive_text_of (those_on self.now transfer.now)) }
     {
-        let Ok(archive) = self.archive_on(transfer) else {
-            return Err(CaseFault::Memory);
-        };
-        let Ok(text) = archive.text() else {
-            return Err(CaseFault::Memory);
-        };
-        Ok(text)
+        Ok(self.archive_text_on(transfer)?)
     }
 }

@@ -18,7 +18,7 @@ use crate::build::{halvings, planned_on};
 use crate::by_transfer::ByTransfer;
 use crate::tables::{add, add_shares};
 use crate::totals::Totals;
-use crate::totals_lines::push_totals_line;
+use crate::totals_text::push_totals_line;
 use indexmap::IndexMap;
 use sct_element::Bic;
 use sct_message::TransferKey;

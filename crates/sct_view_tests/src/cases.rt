@@ -123,9 +123,9 @@ fn stands(
     status: &Status,
     recall: &RecallStatus,
 ) -> Result<bool, Fail> {
-    let told = transfer_status(alloc, &transfer()?, clean, &[])?;
-    let told_of_recall = recall_status(alloc, &transfer()?, clean, &[], &Id35::read(cxl)?)?;
-    Ok(told == *status && told_of_recall == *recall)
+    let found = transfer_status(alloc, &transfer()?, clean, &[])?;
+    let found_of_recall = recall_status(alloc, &transfer()?, clean, &[], &Id35::read(cxl)?)?;
+    Ok(found == *status && found_of_recall == *recall)
 }
 
 #[test]
@@ -159,7 +159,7 @@ fn cxls(alloc: Global) -> Result<Vec<Id35>, Fail> {
 }
 
 /// The statuses of these recalls, if the transfer has this status.
-fn told_of_recalls(
+fn statuses_of_recalls(
     alloc: Global,
     status: &Status,
     clean: &[Arc<Message>],
@@ -168,9 +168,9 @@ fn told_of_recalls(
     Ok(recall_statuses(alloc, status, &transfer()?, clean, &cxls)?)
 }
 
-fn assert_recalls(rt: &impl Abort, told: &[(Id35, RecallStatus)], wanted: &[RecallStatus; 3]) {
-    assert_eq!(rt; told.len(), 3);
-    for (recall, status) in told.iter().zip(wanted) {
+fn assert_recalls(rt: &impl Abort, recalls: &[(Id35, RecallStatus)], wanted: &[RecallStatus; 3]) {
+    assert_eq!(rt; recalls.len(), 3);
+    for (recall, status) in recalls.iter().zip(wanted) {
         assert!(rt; recall.1 == *status);
     }
 }
@@ -179,13 +179,13 @@ fn assert_recalls(rt: &impl Abort, told: &[(Id35, RecallStatus)], wanted: &[Reca
 fn tells_where_recalls_stand_together(rt: HostRuntime) -> Result<(), Fail> {
     let clean = messages_of(rt.alloc(), &RECALLED)?;
     let amount = Amount::read("99.00")?;
-    let told = told_of_recalls(rt.alloc(), &Status::Returned(amount), &clean)?;
+    let recalls = statuses_of_recalls(rt.alloc(), &Status::Returned(amount), &clean)?;
     let returned = RecallStatus::Returned(amount);
     let wanted = [
         returned,
         RecallStatus::Refused(Reason::LEGL),
         RecallStatus::Unknown,
     ];
-    assert_recalls(&rt, &told, &wanted);
+    assert_recalls(&rt, &recalls, &wanted);
     Ok(())
 }

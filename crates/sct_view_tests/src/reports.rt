@@ -34,7 +34,7 @@ static LISTS: [Read; 7] = [
 ];
 
 // The number of rows, or the number of the bad record.
-fn told(read: Result<List, ReconcileFault>) -> Result<usize, u64> {
+fn rows_or_bad_record(read: Result<List, ReconcileFault>) -> Result<usize, u64> {
     match read {
         Ok(list) => Ok(list.rows().len()),
         Err(ReconcileFault::BadList(number)) => Err(number),
@@ -45,7 +45,7 @@ fn told(read: Result<List, ReconcileFault>) -> Result<usize, u64> {
 #[test]
 fn reads_lists(rt: HostRuntime) {
     for Read(text, wanted) in &LISTS {
-        assert_eq!(rt; told(List::read(rt.alloc(), text)), *wanted);
+        assert_eq!(rt; rows_or_bad_record(List::read(rt.alloc(), text)), *wanted);
     }
 }
 

@@ -14,7 +14,7 @@ use Rattle.std.proofs.lemmas.Option.{slice_get_within}
 use mathlib.Core.List.{IsPrefix}
 use Rattle.logbook.specs.Pages.{Book}
 use Rattle.sct_delta.specs.Entries.{Placed}
-use Rattle.sct_history.proofs.Prefixes.{prefix_trans}
+use Rattle.sct_site.proofs.Prefixes.{prefix_trans}
 use Rattle.sct_message.specs.Keys.{transfers_of}
 use Rattle.sct_message.specs.declared.draft.Draft.{Draft}
 use Rattle.sct_message.specs.declared.keys.TransferKey.{TransferKey}

@@ -6,25 +6,32 @@ ghost use Rattle.sct_workers.specs.Holds.{WorkerEndsWhere};
 
 use crate::fault::WorkFault;
 use crate::gate::{Gate, Point};
-use crate::kept::Kept;
-use crate::new_entry::NewEntry;
+use crate::kept::{Kept, Takes};
 use crate::receipts::accept_for_receipt;
 use crate::run::{Run, pass};
-use crate::takes::Takes;
+use crate::senders::NewEntry;
 use crossbeam_channel::Receiver;
-use sct_delta::{Delta, DeltaFault};
+use sct_delta::{Delta, DeltaFault, Entry};
 use sct_desk::{Desk, Site};
 use sct_site::Accepted;
-use std::alloc::Global;
+use std::alloc::{AllocError, Global};
 use std::sync::Wait;
+
+// The list of one entry.
+fn list_of(alloc: Global, entry: NewEntry) -> Result<Vec<Entry>, AllocError>
+    ensures { IfOk result (λ entries. entries.items ≡ entry.entry ∷ []) }
+{
+    let mut entries = Vec::new(alloc);
+    entries.push(entry.into_entry())?;
+    Ok(entries)
+}
 
 // The delta of one entry.
 fn delta_of(alloc: Global, entry: NewEntry) -> Result<Delta, WorkFault>
     ensures entries { IfOk result (λ delta. delta ≡ entry.entry ∷ []) }
     ensures ends { IfErr result (WorkerEndsWhere (λ point. ⊥)) }
 {
-    let mut entries = Vec::new(alloc);
-    entries.push(entry.into_entry())?;
+    let entries = list_of(alloc, entry)?;
     match Delta::of(entries) {
         Ok(delta) => Ok(delta),
         Err(refusal) => Err(WorkFault::from(refusal)),

@@ -8,7 +8,7 @@ ghost use Rattle.sct_workers.specs.declared.fault.WorkFault.TheVariants as fault
 
 use sct_delta::DeltaFault;
 use sct_desk::DeskFault;
-use std::alloc::{AllocError, AllocFailed};
+use std::alloc::AllocError;
 use thiserror::Error;
 
 /// Why a worker ends before its work is done.
@@ -18,7 +18,7 @@ pub enum WorkFault {
     #[error("a gate held a worker back")]
     Held,
     /// 65: out of memory at this call, or at an earlier call whose arrival a later call published.
-    #[error("memory is wanting")]
+    #[error("out of memory")]
     Memory,
     /// 66: a call was refused, with the number of its own fault.
     #[error("a call was refused with {number}")]
@@ -46,14 +46,6 @@ impl From<AllocError> for WorkFault {
     ghost from_gives = { λ _ e. e ≡ fault.Memory };
 
     fn from(_error: AllocError) -> WorkFault {
-        WorkFault::Memory
-    }
-}
-
-impl<T: Drop> From<AllocFailed<T>> for WorkFault {
-    ghost from_gives = { λ _ e. e ≡ fault.Memory };
-
-    fn from(_error: AllocFailed<T>) -> WorkFault {
         WorkFault::Memory
     }
 }
@@ -102,11 +94,12 @@ impl From<WorkFault> for SiteFault {
     }
 }
 
-impl From<SiteFault> for WorkFault {
-    ghost from_gives = { λ refusal e. e ≡ work_fault_of refusal };
-
-    fn from(refusal: SiteFault) -> WorkFault {
-        match refusal {
+impl SiteFault {
+    /// The fault of the worker, or of the refusal to close the desk.
+    pub fn reason(self) -> WorkFault
+        ensures { result ≡ work_fault_of self }
+    {
+        match self {
             SiteFault::Working(reason) => reason,
             SiteFault::Closing(reason) => reason,
         }

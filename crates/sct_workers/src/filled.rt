@@ -1,12 +1,10 @@
 //! Sites that were filled from inputs.
 
-ghost use Rattle.std.specs.Prelude.{◌≡◌, ◌+◌, ◌++◌, ◌∷◌, [], IfErr, IfOk};
-ghost use Rattle.sct_workers.specs.declared.fault.WorkFault.TheVariants as fault;
+ghost use Rattle.std.specs.Prelude.{◌≡◌, ◌+◌, ◌++◌, ◌∷◌, [], IfOk};
 
-use crate::fault::WorkFault;
 use sct_lines::Refusals;
 use sct_site::SiteCore;
-use std::alloc::Global;
+use std::alloc::{AllocError, Global};
 
 /// A site that was filled from an input, with the refused lines of the input.
 #[derive(Drop)]
@@ -36,13 +34,12 @@ impl Sites {
     }
 
     // Adds the site of one more input.
-    pub(crate) fn with(self, site: Filled) -> Result<Sites, WorkFault>
+    pub(crate) fn with(self, site: Filled) -> Result<Sites, AllocError>
         ensures cores { IfOk result (λ sites. sites.cores.items ≡ self.cores.items ++ site.core ∷ []) }
         ensures told { IfOk result (λ sites. sites.refusals.text
             ≡ self.refusals.text ++ site.refusals.text) }
         ensures refused { IfOk result (λ sites. sites.refusals.count
             ≡ self.refusals.count + site.refusals.count) }
-        ensures memory { IfErr result (λ e. e ≡ fault.Memory) }
     {
         let Sites {
             mut cores,

@@ -16,11 +16,10 @@ ghost use Rattle.sct_workers.specs.Shown.{ShowsMore};
 
 use crate::fault::WorkFault;
 use crate::gate::{Gate, Point};
-use crate::kept::Kept;
+use crate::kept::{Kept, Takes};
 use crate::receipts::{publish_for_receipt, take_for_receipt};
 use crate::run::{Passed, Run, pass};
 use crate::senders::Senders;
-use crate::takes::Takes;
 use sct_desk::{Desk, Receipt, Site};
 use sct_message::{Message, TransferKey};
 use sct_site::Took;

@@ -1,6 +1,7 @@
-//! The receipts that workers keep until the desk is closed with them.
+//! The messages that a site takes, and the receipts that its workers keep until the desk is closed with them.
 
 ghost use Rattle.std.specs.Prelude.{◌≡◌, ◌++◌, ◌∷◌, [], true, Err, IfErr, IfOk, Ok, OnOk};
+ghost use Rattle.sct_set.specs.Contents.{contents_of};
 ghost use Rattle.sct_site.specs.Cores.{is_open};
 ghost use Rattle.sct_workers.specs.Faults.{IsNotClosed, IsRefusalToClose, fault_of_desk};
 ghost use Rattle.sct_workers.specs.Kept.{AllKeep, AllShown, Keeps};
@@ -8,12 +9,24 @@ ghost use Rattle.sct_workers.specs.Stands.{Stands};
 ghost use Rattle.sct_workers.specs.declared.fault.WorkFault.TheVariants as fault;
 
 use crate::fault::WorkFault;
-use crate::takes::Takes;
 use sct_desk::{Desk, NotClosed, Receipt, Site};
 use sct_site::SiteCore;
-use std::alloc::Global;
-use std::marker::PhantomData;
+use std::alloc::{AllocError, Global};
+use std::marker::{Brand, PhantomData};
 use std::sync::Wait;
+
+/// The messages that a site takes. Each call that runs a site picks its own, so that the receipts of the site are known to
+/// be about these messages.
+pub trait Takes {
+    ghost use Rattle.sct_message.specs.Sets.{MessageSet};
+
+    ghost messages: { MessageSet };
+}
+
+/// The messages that a call picks.
+impl Takes for Brand {
+    ghost messages = { contents_of [] };
+}
 
 // The result of a worker that closed a desk: the core, or the desk's own refusal.
 fn closed_by<J: Site, H: Wait + Drop>(
@@ -59,14 +72,13 @@ impl<J: Site + Takes> Kept<J> {
         ensures items { OnOk result (self.new.receipts.items ≡ self.old.receipts.items ++ receipt ∷ []) }
         ensures memory { IfErr result (λ e. e ≡ fault.Memory) }
     {
-        self.receipts.push(receipt)?;
+        self.receipts.push(receipt).map_err(AllocError::from)?;
         Ok(())
     }
 
-    // The receipts of two workers. Error: `Memory` (65).
-    pub(crate) fn append(self, more: Kept<J>) -> Result<Kept<J>, WorkFault>
+    // The receipts of two workers.
+    pub(crate) fn append(self, more: Kept<J>) -> Result<Kept<J>, AllocError>
         ensures items { IfOk result (λ all. all.receipts.items ≡ self.receipts.items ++ more.receipts.items) }
-        ensures memory { IfErr result (λ e. e ≡ fault.Memory) }
     {
         let Kept { mut receipts, .. } = self;
         let Kept {

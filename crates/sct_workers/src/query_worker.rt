@@ -11,10 +11,9 @@ ghost use Rattle.sct_workers.specs.Holds.{WorkerEndsWhere};
 
 use crate::fault::WorkFault;
 use crate::gate::{Gate, Point};
-use crate::kept::Kept;
-use crate::note::Note;
+use crate::kept::{Kept, Takes};
 use crate::run::{Run, pass};
-use crate::takes::Takes;
+use crate::senders::Note;
 use crossbeam_channel::Receiver;
 use sct_case::Status;
 use sct_desk::{Answer, Query, Receipt, Site};

@@ -12,7 +12,7 @@ ghost use Rattle.sct_workers.specs.Reported.{AnswersTo, IsReported, NoneFails, R
 
 use crate::fault::{SiteFault, WorkFault, worse_of_sites};
 use crate::filled::{Filled, Sites};
-use std::alloc::Global;
+use std::alloc::{AllocError, Global};
 
 // The fault that is reported of the sites so far and the next one.
 #[tactic(auto, using(crate::proofs::ReportLemmas::reports_when_ok, crate::proofs::ReportLemmas::reports_when_first, crate::proofs::ReportLemmas::reports_when_next))]
@@ -40,17 +40,16 @@ pub fn reported_fault(answers: &[Result<Filled, SiteFault>]) -> Option<SiteFault
     reported
 }
 
-// The sites, none of which failed. The only error is `Memory` (65).
+// The sites, none of which failed.
 fn collect_all(
     alloc: Global,
     inputs: &[Vec<u8>],
     answers: Vec<Result<Filled, SiteFault>>,
-) -> Result<Sites, WorkFault>
+) -> Result<Sites, AllocError>
     requires len { length answers.items ≡ length inputs.now }
     requires filled { AtEach (AnswersTo (length inputs.now) (bytes_of inputs.now)) answers.items }
     requires none { NoneFails answers.items }
     ensures filled { IfOk result (AreFilled (length inputs.now) (bytes_of inputs.now)) }
-    ensures memory { IfErr result (λ e. e ≡ fault.Memory) }
 {
     let mut sites = Sites::none(alloc);
     for answer in answers {
@@ -76,6 +75,9 @@ pub(crate) fn collect_sites(
 {
     match reported_fault(&answers) {
         Some(fault) => Err(fault),
-        None => Ok(collect_all(alloc, inputs, answers)?),
+        None => match collect_all(alloc, inputs, answers) {
+            Ok(sites) => Ok(sites),
+            Err(_) => Err(SiteFault::Working(WorkFault::Memory)),
+        },
     }
 }

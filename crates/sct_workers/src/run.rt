@@ -19,7 +19,7 @@ pub(crate) struct Run<'a, G, R> {
 
 /// The number of a site, counted from 1, and the number of sites in its group.
 #[derive(Clone, Copy)]
-pub(crate) struct Member {
+pub(crate) struct MemberSite {
     pub(crate) number: u16,
     pub(crate) group: u16,
 }

@@ -13,10 +13,10 @@ ghost use Rattle.sct_workers.specs.Reported.{AnswersTo};
 use crate::fault::{SiteFault, WorkFault};
 use crate::filled::{Filled, Sites};
 use crate::gate::Gate;
-use crate::new_entry::NewEntry;
 use crate::reporting::collect_sites;
-use crate::run::{Member, Run};
-use crate::site::fill_site;
+use crate::run::{MemberSite, Run};
+use crate::senders::NewEntry;
+use crate::site_work::fill_site;
 use crate::workers::Channels;
 use crossbeam_channel::{Receiver, Sender};
 use sct_delta::{DeltaFault, MOST_SITES};
@@ -75,7 +75,7 @@ fn channels_of_sites(alloc: Global, count: usize) -> Result<Vec<Channels>, Alloc
 #[derive(Drop)]
 pub(crate) struct Fills<'a, G: Gate> {
     gate: &'a G,
-    member: Member,
+    member: MemberSite,
     input: &'a [u8],
 }
 
@@ -90,7 +90,7 @@ type Child<'a, G> = PromisedHandle<Result<Filled, SiteFault>, Fills<'a, G>>;
 fn start_site<'s, E, G: Gate + Sync, R: Threads + Wait + Sync>(
     run: &Run<'s, G, R>,
     scope: &Scope<'s, E>,
-    member: Member,
+    member: MemberSite,
     input: &'s [u8],
     channels: Channels,
 ) -> Result<Child<'s, G>, WorkFault>
@@ -143,7 +143,7 @@ fn start_sites<'s, E, G: Gate + Sync, R: Threads + Wait + Sync>(
     let mut children = room;
     for own in channels {
         let place = children.len();
-        let member = Member {
+        let member = MemberSite {
             number: place as u16 + 1,
             group,
         };
@@ -205,7 +205,10 @@ fn fill_each<G: Gate + Sync, R: Threads + Wait + Sync>(
             let children = Vec::with_capacity(alloc, inputs.len())?;
             let children = start_sites(&run, scope, inputs, channels, children)?;
             let answers = join_sites(&run, inputs, children, answers);
-            Ok(collect_sites(alloc, inputs, answers)?)
+            match collect_sites(alloc, inputs, answers) {
+                Ok(sites) => Ok(sites),
+                Err(fault) => Err(fault.reason()),
+            }
         },
     )
 }

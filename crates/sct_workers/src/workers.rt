@@ -11,12 +11,10 @@ use crate::exchange_worker::accept_entries;
 use crate::fault::{WorkFault, worse_of_workers};
 use crate::gate::Gate;
 use crate::intake_worker::take_messages;
-use crate::kept::Kept;
-use crate::new_entry::NewEntry;
+use crate::kept::{Kept, Takes};
 use crate::query_worker::answer_notes;
 use crate::run::Run;
-use crate::senders::Senders;
-use crate::takes::Takes;
+use crate::senders::{NewEntry, Senders};
 use crossbeam_channel::{Receiver, Sender};
 use sct_desk::{Desk, Query, Site};
 use sct_message::Message;
@@ -77,7 +75,7 @@ fn combine<J: Site + Takes>(
     ensures one { IfErr result (λ e. (e ≡ fault.Memory) ⊎ ((first ≡ Err e) ⊎ (second ≡ Err e))) }
 {
     match (first, second) {
-        (Ok(kept), Ok(more)) => kept.append(more),
+        (Ok(kept), Ok(more)) => Ok(kept.append(more)?),
         (Ok(_), Err(fault)) => Err(fault),
         (Err(fault), Ok(_)) => Err(fault),
         (Err(one), Err(other)) => Err(worse_of_workers(one, other)),

@@ -14,7 +14,7 @@ use Rattle.sct_world.specs.Inside.{deltas_kept, entries_kept, held_by, state_of,
 use Rattle.sct_world.specs.States.{State, is_no_site, held_at, core_at, delta_at}
 use Rattle.sct_world.specs.declared.event.Step.TheVariants as step
 use Rattle.sct_world.specs.declared.fault.WorldFault.TheVariants as fault
-use Rattle.sct_world.specs.declared.kept.KeptDelta.{KeptDelta}
+use Rattle.sct_world.specs.declared.world.KeptDelta.{KeptDelta}
 use Rattle.sct_world.proofs.KeepLemmas.{keeping_on, state_same}
 use Rattle.sct_world.proofs.NewLemmas.{fresh_alike, refusal_alike}
 use Rattle.sct_world.proofs.WorldLemmas.{closed_now, hand_refused, hand_no_fork, hand_accepted, old_is, state_handed, world_handed}

@@ -16,7 +16,7 @@ use Rattle.sct_site.proofs.RangeLemmas.{length_ranges, same_ranges, still_reach}
 use Rattle.sct_world.specs.Closed.{IsClosed}
 use Rattle.sct_world.specs.Inside.{deltas_kept, entries_kept, held_by, state_of, IsKeeping, IsKeptDelta, IsWorld}
 use Rattle.sct_world.specs.States.{State, is_no_site, is_size, held_at, core_at}
-use Rattle.sct_world.specs.declared.kept.KeptDelta.{KeptDelta}
+use Rattle.sct_world.specs.declared.world.KeptDelta.{KeptDelta}
 use Rattle.sct_world.proofs.CoreLemmas.{state-set}
 use Rattle.sct_world.proofs.StateLemmas.{inside}
 use Rattle.sct_world.proofs.WorldLemmas.{closed_now, old_is}

@@ -6,7 +6,7 @@ use Rattle.sct_site.specs.Cores.{Core, logs_of}
 use Rattle.sct_site.specs.Ranges.{in_ranges, ReachEnds}
 use Rattle.sct_world.specs.Closed.{IsClosed}
 use Rattle.sct_world.specs.States.{State, is_size}
-use Rattle.sct_world.specs.declared.kept.KeptDelta.{KeptDelta}
+use Rattle.sct_world.specs.declared.world.KeptDelta.{KeptDelta}
 
 -- sites of one group, numbered from `number` upwards, by the entries that each holds
 abbrev pub cores_from : ℕ → ℕ → List (List Placed) → List Core

@@ -1,8 +1,12 @@
-//! The events of a world, and their outcomes.
+//! The events of a world, their steps and their outcomes.
+
+ghost use Rattle.std.specs.Prelude.{◌≡◌};
+ghost use Rattle.sct_world.specs.Histories.{step_taken, site_of};
 
 use crate::fault::WorldFault;
 use sct_delta::Vector;
 use sct_message::Message;
+use sct_site::Took;
 use std::sync::Arc;
 
 /// An event at one site of a world. Sites and deltas are numbered from 1.
@@ -35,4 +39,25 @@ pub enum Outcome {
     Done(Step),
     /// The event was refused. The world is unchanged.
     Refused(WorldFault),
+}
+
+/// The step of a take.
+pub(crate) fn step_taken(took: Took) -> Step
+    ensures { result ≡ step_taken took }
+{
+    match took {
+        Took::Taken { n } => Step::Taken { n },
+        Took::Repeat => Step::Repeat,
+    }
+}
+
+/// The site at which an event happens.
+pub(crate) fn site_of(event: &Event) -> u16
+    ensures { result ≡ site_of event.now }
+{
+    match event {
+        Event::Take { site, .. } => *site,
+        Event::Cut { site, .. } => *site,
+        Event::Hand { site, .. } => *site,
+    }
 }

@@ -4,10 +4,8 @@ ghost use Rattle.std.specs.Prelude.{◌≡◌, Bool, true, false};
 ghost use Rattle.sct_delta.specs.declared.fault.DeltaFault.TheVariants as delta;
 ghost use Rattle.sct_world.specs.declared.fault.WorldFault.TheVariants as fault;
 
-use sct_case::CaseFault;
 use sct_delta::DeltaFault;
-use sct_set::SetFault;
-use std::alloc::{AllocError, AllocFailed};
+use std::alloc::AllocError;
 use thiserror::Error;
 
 /// Why an event is refused, or why a world could not be made. A refused event leaves the world unchanged.
@@ -56,30 +54,6 @@ impl From<AllocError> for WorldFault {
     ghost from_gives = { λ _ f. f ≡ fault.Delta delta.Memory };
 
     fn from(_: AllocError) -> Self {
-        WorldFault::Delta(DeltaFault::Memory)
-    }
-}
-
-impl<T: Drop> From<AllocFailed<T>> for WorldFault {
-    ghost from_gives = { λ _ f. f ≡ fault.Delta delta.Memory };
-
-    fn from(_: AllocFailed<T>) -> Self {
-        WorldFault::Delta(DeltaFault::Memory)
-    }
-}
-
-impl From<SetFault> for WorldFault {
-    ghost from_gives = { λ _ f. f ≡ fault.Delta delta.Memory };
-
-    fn from(_: SetFault) -> Self {
-        WorldFault::Delta(DeltaFault::Memory)
-    }
-}
-
-impl From<CaseFault> for WorldFault {
-    ghost from_gives = { λ _ f. f ≡ fault.Delta delta.Memory };
-
-    fn from(_: CaseFault) -> Self {
         WorldFault::Delta(DeltaFault::Memory)
     }
 }

@@ -1,6 +1,6 @@
 //! Histories: lists of events, starting from a world without entries.
 
-ghost use Rattle.std.specs.Prelude.{◌≡◌, ◌≢◌, ℕ, false, All, OnOk, IfOk, IfErr};
+ghost use Rattle.std.specs.Prelude.{◌≡◌, ◌≢◌, ◌++◌, ◌∷◌, [], ℕ, false, All, OnOk, IfOk, IfErr};
 ghost use Rattle.sct_delta.specs.Entries.{messages_of};
 ghost use Rattle.sct_delta.specs.declared.fault.DeltaFault.TheVariants as delta;
 ghost use Rattle.sct_reconcile.specs.Reports.{report_of};
@@ -21,7 +21,7 @@ use crate::world::World;
 use sct_element::{Bic, Day};
 use sct_message::Identity;
 use sct_reconcile::{List, Report};
-use std::alloc::Global;
+use std::alloc::{AllocError, Global};
 use std::thread::Threads;
 
 /// A world after a list of events, with the outcome of each event.
@@ -41,21 +41,35 @@ pub struct AnswersAfter {
 }
 
 // The outcome of an event. Out of memory is not an outcome but an error.
-fn outcome(world: &mut World, event: &Event) -> Result<Outcome, WorldFault>
+fn outcome(world: &mut World, event: &Event) -> Result<Outcome, AllocError>
     ensures ok { IfOk result (λ outcome. outcome ≡ outcome_of world.old event.now) }
     ensures world { OnOk result (world.new ≡ world_after world.old event.now) }
     ensures no_fork { IfOk result (λ outcome. IsNoForkOutcome outcome) }
-    ensures err { IfErr result (λ refusal. refusal ≡ fault.Delta delta.Memory) }
 {
     match world.step(event) {
         Ok(step) => Ok(Outcome::Done(step)),
         Err(refusal) => {
             if refusal.is_memory() {
-                return Err(refusal);
+                return Err(AllocError);
             }
             Ok(Outcome::Refused(refusal))
         }
     }
+}
+
+// Appends the outcome of an event.
+fn push_outcome(
+    world: &mut World,
+    outcomes: &mut Vec<Outcome>,
+    event: &Event,
+) -> Result<(), AllocError>
+    ensures world { OnOk result (world.new ≡ world_after world.old event.now) }
+    ensures outcomes { OnOk result (outcomes.new.items
+        ≡ outcomes.old.items ++ outcome_of world.old event.now ∷ []) }
+    ensures no_fork { OnOk result (IsNoForkOutcome (outcome_of world.old event.now)) }
+{
+    outcomes.push(outcome(world, event)?)?;
+    Ok(())
 }
 
 /// Runs events, one after another, in a new world of `sites` sites.
@@ -76,7 +90,7 @@ pub fn run(alloc: Global, sites: u16, events: &[Event]) -> Result<Ran, WorldFaul
     let mut world = World::open(alloc, sites)?;
     let mut outcomes = Vec::new(alloc);
     for event in events {
-        outcomes.push(outcome(&mut world, event)?)?;
+        push_outcome(&mut world, &mut outcomes, event)?;
     }
     Ok(Ran { world, outcomes })
 }

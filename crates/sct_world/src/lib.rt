@@ -6,7 +6,6 @@ mod answers;
 mod event;
 mod fault;
 mod history;
-mod kept;
 pub mod laws;
 mod settling;
 mod world;

@@ -12,23 +12,28 @@ ghost use Rattle.sct_site.specs.Cores.{is_above};
 ghost use Rattle.sct_world.specs.declared.event.Event.TheVariants as event;
 ghost use Rattle.sct_world.specs.declared.fault.WorldFault.TheVariants as fault;
 ghost use Rattle.sct_world.specs.Inside.{cores_from};
-ghost use Rattle.sct_world.specs.Histories.{step_taken, site_of};
 ghost use Rattle.sct_world.specs.States.{is_size};
 
 use crate::answers::{Answers, answers_of, report_on};
-use crate::event::{Event, Step};
+use crate::event::{Event, Step, site_of, step_taken};
 use crate::fault::WorldFault;
-use crate::kept::KeptDelta;
 use sct_delta::{Delta, DeltaFault, MOST_SITES, Vector};
 use sct_element::{Bic, Day};
 use sct_message::{Identity, Message};
 use sct_reconcile::{List, Report};
 use sct_set::Archive;
-use sct_site::{SiteCore, Took, entries_in};
-use std::alloc::Global;
+use sct_site::{LogRange, SiteCore, entries_in};
+use std::alloc::{AllocError, Global};
 use std::marker::Model;
 use std::sync::Arc;
 use std::thread::Threads;
+
+/// A delta that was cut, as ranges of the logs of the site that cut it. Logs only grow, so the ranges keep its entries.
+#[derive(Drop)]
+pub struct KeptDelta {
+    pub site: u16,
+    pub ranges: Vec<LogRange>,
+}
 
 /// The sites 1 to n of one group, and every delta that they cut.
 #[derive(Drop)]
@@ -62,27 +67,6 @@ fn open_cores(alloc: Global, sites: u16) -> Result<Vec<SiteCore>, DeltaFault>
         cores.push(core)?;
     }
     Ok(cores)
-}
-
-// The step of a take.
-fn step_taken(took: Took) -> Step
-    ensures { result ≡ step_taken took }
-{
-    match took {
-        Took::Taken { n } => Step::Taken { n },
-        Took::Repeat => Step::Repeat,
-    }
-}
-
-// The site at which an event happens.
-fn site_of(event: &Event) -> u16
-    ensures { result ≡ site_of event.now }
-{
-    match event {
-        Event::Take { site, .. } => *site,
-        Event::Cut { site, .. } => *site,
-        Event::Hand { site, .. } => *site,
-    }
 }
 
 impl World {
@@ -148,7 +132,7 @@ impl World {
         let Ok(archive) = self.archive(site) else {
             return Err(WorldFault::BadSite);
         };
-        answers_of(self.alloc, archive)
+        Ok(answers_of(self.alloc, archive)?)
     }
 
     /// The contradicted identities of a site, in ascending order. The site holds two different messages of each.
@@ -163,7 +147,7 @@ impl World {
         let Ok(archive) = self.archive(site) else {
             return Err(WorldFault::BadSite);
         };
-        Ok(archive.contradictions()?)
+        Ok(archive.contradictions().map_err(AllocError::from)?)
     }
 
     /// The report on a bank's list for a settlement day, over the messages that a site holds. Errors: `BadSite` (44) if
@@ -186,7 +170,7 @@ impl World {
         let Ok(archive) = self.archive(site) else {
             return Err(WorldFault::BadSite);
         };
-        report_on(rt, self.alloc, archive, bank, day, list)
+        Ok(report_on(rt, self.alloc, archive, bank, day, list)?)
     }
 
     // Whether the world does not have this site.
@@ -196,31 +180,29 @@ impl World {
         site < 1 || (site as usize) > self.cores.len()
     }
 
-    fn take(&mut self, site: u16, message: &Arc<Message>) -> Result<Step, WorldFault>
+    fn take(&mut self, site: u16, message: &Arc<Message>) -> Result<Step, AllocError>
         requires { is_no_site self.old site ≡ false }
         ensures answer { IfOk result (λ step. step_at self.old (event.Take site message.now) ≡ Ok step) }
         ensures ok { OnOk result (self.new ≡ after_at self.old (event.Take site message.now)) }
-        ensures err { IfErr result (λ refusal. refusal ≡ fault.Delta delta.Memory) }
         ensures unchanged { OnErr result (self.new ≡ self.old) }
     {
         let message = message.clone()?;
         let took = match self.cores[(site - 1) as usize].take(message) {
             Ok(took) => took,
-            Err(refusal) => return Err(WorldFault::Delta(refusal)),
+            Err(_) => return Err(AllocError),
         };
         Ok(step_taken(took))
     }
 
-    fn cut(&mut self, site: u16, vector: &Vector) -> Result<Step, WorldFault>
+    fn cut(&mut self, site: u16, vector: &Vector) -> Result<Step, AllocError>
         requires { is_no_site self.old site ≡ false }
         ensures answer { IfOk result (λ step. step_at self.old (event.Cut site vector.now) ≡ Ok step) }
         ensures ok { OnOk result (self.new ≡ after_at self.old (event.Cut site vector.now)) }
-        ensures err { IfErr result (λ refusal. refusal ≡ fault.Delta delta.Memory) }
         ensures unchanged { OnErr result (self.new ≡ self.old) }
     {
         let ranges = match self.cores[(site - 1) as usize].cut_ranges(vector) {
             Ok(ranges) => ranges,
-            Err(refusal) => return Err(WorldFault::Delta(refusal)),
+            Err(_) => return Err(AllocError),
         };
         let entries = entries_in(&ranges);
         let number = self.deltas.len() as u64 + 1;
@@ -294,8 +276,8 @@ impl World {
             return Err(WorldFault::BadSite);
         }
         match event {
-            Event::Take { site, message } => self.take(*site, message),
-            Event::Cut { site, vector } => self.cut(*site, vector),
+            Event::Take { site, message } => Ok(self.take(*site, message)?),
+            Event::Cut { site, vector } => Ok(self.cut(*site, vector)?),
             Event::Hand { delta, site } => self.hand(*delta, *site),
         }
     }

@@ -1,10 +1,74 @@
-//! The fields of an entry line, separated by one space.
-ghost use Rattle.std.specs.Prelude.{◌≡◌, ◌<◌, ◌==◌, length, option_map, IfSome, position};
-ghost use Rattle.sct_delta.specs.TextLines.{is_space, number_before_space, after_prefix};
+//! The ended lines of a text, numbers in decimal, and the fields of an entry line, separated by one space.
+ghost use Rattle.std.specs.Prelude.{◌≡◌, ◌<◌, ◌==◌, length, option_map, IfSome, position, ◌+◌, ◌∷◌, Some, None, MatchOption, ◌&&◌, ◌||◌, not, IsTrue, nat_le, slice_index, option_copied};
+ghost use Rattle.sct_delta.specs.TextLines.{is_space, number_before_space, after_prefix, lines_by_end, ended_first, is_numeral, number_in, begins_right};
 ghost use Rattle.sct_delta.specs.EntryText.{fields_in, site_in_form_1};
+ghost use Rattle.std.specs.List.{position_from};
 
 use crate::sites::is_site_of_form_1;
-use crate::text::numbers::number_of;
+use sct_element::are_digits;
+
+// Whether there is a character, and no zero comes before others.
+fn begins_right(text: &[u8]) -> bool
+    ensures { result ≡ begins_right text.now }
+{
+    text.len() == 1 || text.len() > 1 && text[0] != b'0'
+}
+
+// Whether the text is a number in decimal, of any size.
+fn is_numeral(text: &[u8]) -> bool
+    ensures { result ≡ is_numeral text.now }
+{
+    begins_right(text) && are_digits(text)
+}
+
+// The number that digits write, or none if it is not below 2^64.
+fn number_of_digits(text: &[u8]) -> Option<u64>
+    requires { IsTrue (is_numeral text.now) }
+    ensures { result ≡ number_in text.now }
+{
+    match std::str::from_utf8(text) {
+        Ok(digits) => digits.parse::<u64>().ok(),
+        Err(_) => None,
+    }
+}
+
+/// The number that a text writes in decimal, without a sign or a leading zero. None if
+/// the text is not a number below 2^64.
+#[tactic(auto, unfolding(crate::specs::TextLines::number_in))]
+pub fn number_of(text: &[u8]) -> Option<u64>
+    ensures { result ≡ number_in text.now }
+{
+    if is_numeral(text) {
+        number_of_digits(text)
+    } else {
+        None
+    }
+}
+
+// The place of the first line feed.
+fn line_feed(bytes: &[u8]) -> Option<usize>
+    ensures first { result ≡ position_from (λ byte. byte == 10) 0 bytes.now }
+    ensures within { IfSome result (λ at. at < length bytes.now) }
+{
+    bytes.iter().position(|byte| *byte == b'\n')
+}
+
+/// The bytes before the first line feed, and the bytes after it. None if there is no line feed.
+pub fn first_ended_line(bytes: &[u8]) -> Option<(&[u8], &[u8])>
+    ensures lines { MatchOption result (ended_first (lines_by_end bytes.now) ≡ None)
+        (λ parts. lines_by_end bytes.now ≡ Some parts.0.now ∷ lines_by_end parts.1.now) }
+    ensures whole { IfSome result (λ parts. length parts.0.now + (1 + length parts.1.now) ≡ length bytes.now) }
+    ensures shorter { IfSome result (λ parts. length parts.1.now < length bytes.now) }
+{
+    match line_feed(bytes) {
+        Some(at) => {
+            let (line, _) = bytes.split_at(at);
+            let (_, rest) = bytes.split_at(at + 1);
+            Some((line, rest))
+        }
+        None => None,
+    }
+}
 
 // The place of the first space.
 fn space(text: &[u8]) -> Option<usize>

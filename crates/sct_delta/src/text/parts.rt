@@ -7,7 +7,7 @@ ghost use Rattle.sct_delta.specs.TextLines.{after_prefix, entries_ended, is_end_
 
 use crate::entry::Entry;
 use crate::fault::DeltaFault;
-use crate::text::numbers::number_of;
+use crate::text::fields::number_of;
 use sct_json::{JsonFault, read_message};
 use sct_message::Message;
 use std::alloc::{AllocError, Global};
@@ -37,7 +37,7 @@ fn is_end_line(line: &[u8], count: u64) -> bool
     ensures { result ≡ is_end_line count line.now }
 {
     match told_count(line) {
-        Some(told) => told == count,
+        Some(number) => number == count,
         None => false,
     }
 }

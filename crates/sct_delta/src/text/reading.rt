@@ -12,8 +12,8 @@ use crate::delta::Delta;
 use crate::entry::Entry;
 use crate::fault::DeltaFault;
 use crate::text::entries::read_entries;
+use crate::text::fields::first_ended_line;
 use crate::text::groups::read_groups;
-use crate::text::lines::first_ended_line;
 use std::alloc::Global;
 
 // Whether the line is the head line of form 1.

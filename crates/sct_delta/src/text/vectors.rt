@@ -7,7 +7,7 @@ ghost use Rattle.sct_delta.specs.VectorText.{CountsTheSame, IsReadBack, Pair, co
 
 use crate::fault::DeltaFault;
 use crate::sites::{MOST_SITES, is_site};
-use crate::text::numbers::number_of;
+use crate::text::fields::number_of;
 use crate::vector::Vector;
 use std::alloc::{AllocError, Global};
 use std::fmt::Write;

@@ -8,11 +8,10 @@ ghost use Rattle.sct_reconcile.specs.declared.rows.ListedRow.{ListedRow as Row};
 
 use super::Report;
 use crate::fault::ReconcileFault;
-use crate::filed::{Index, by_transfer, listed_on};
 use crate::judged::row_on;
 use crate::keys::keys_reported;
 use crate::lists::List;
-use crate::rows::ReportRow;
+use crate::rows::{Index, ReportRow, by_transfer, listed_on};
 use sct_element::{Bic, Day};
 use sct_message::TransferKey;
 use sct_view::View;

@@ -8,10 +8,9 @@ ghost use Rattle.sct_desk.specs.Tilings.{AreOurs};
 
 use sct_desk::{Desk, NotClosed, Query, Receipt, Site};
 use sct_element::{Bic, Id35};
-use sct_history::{History, Track};
 use sct_json::read_message;
 use sct_message::{Message, TransferKey};
-use sct_site::SiteCore;
+use sct_site::{History, SiteCore, Track};
 use std::alloc::Global;
 use std::process::Abort;
 use std::sync::{Arc, Wait};

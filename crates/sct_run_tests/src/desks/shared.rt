@@ -1,15 +1,14 @@
-//! A desk that three threads share.
+//! A desk that three threads share, and the status text of the 100 transfers that it then has.
 
-ghost use Rattle.std.specs.Prelude.{◌≡◌, [], IfSome};
+ghost use Rattle.std.specs.Prelude.{◌≡◌, ◌≤◌, [], IfSome};
 ghost use Rattle.sct_desk.specs.Tilings.{AreOurs};
 
-use super::pending::{all_pending, status_of};
 use super::scenes::{first_transfer, open_one, sizes_of, take_some};
 use sct_case::Status;
 use sct_desk::{Desk, Query, Receipt, Site};
-use sct_history::{History, Track};
 use sct_message::TransferKey;
-use sct_site::SiteCore;
+use sct_site::{History, SiteCore, Track};
+use sct_view::View;
 use std::alloc::Global;
 use std::marker::Brand;
 use std::process::Abort;
@@ -99,6 +98,42 @@ fn three_threads<J: Site + Send + Sync, H: Wait + Drop + Send + Sync, R: Threads
             ensures { IfSome result (λ kept. AreOurs J.book J.number kept.items) }
         { two_takers(rt, alloc, desk) },
     )
+}
+
+// The status text of a view of all messages of a site. None only if it is out of memory.
+fn status_of(alloc: Global, core: &SiteCore) -> Option<Vec<u8>> {
+    let mut view = View::new(alloc);
+    view.apply(core.archive().messages()).ok()?;
+    view.status_text().ok()
+}
+
+// Appends the line of one pending transfer.
+fn push_pending(alloc: Global, text: &mut String, at: u64) -> Option<()> {
+    let line = format!(in alloc; "T|BANKDEFFXXX|T{at}|PENDING\n").ok()?;
+    text.push_str(&line).ok()
+}
+
+// Appends the lines of the transfers whose number begins with this digit. Keys ascend by bytes, so T100 follows T10.
+fn push_digit(alloc: Global, text: &mut String, digit: u64) -> Option<()>
+    requires { digit ≤ 9 }
+{
+    push_pending(alloc, text, digit)?;
+    for at in 10 * digit..10 * digit + 10 {
+        push_pending(alloc, text, at)?;
+        if at == 10 {
+            push_pending(alloc, text, 100)?;
+        }
+    }
+    Some(())
+}
+
+// The status text of the pending transfers T1 to T100. None only if it is out of memory.
+fn all_pending(alloc: Global) -> Option<String> {
+    let mut text = String::new(alloc);
+    for digit in 1..10 {
+        push_digit(alloc, &mut text, digit)?;
+    }
+    Some(text)
 }
 
 // Asserts that the site has 100 arrivals, and that all its 100 transfers are pending.

@@ -122,13 +122,13 @@ static REFUSED_TEXT: &[u8] = b"T|BANKDEFFXXX|T1|PENDING\n";
 
 #[test]
 fn a_full_error_output_leaves_the_output_empty(rt: HostRuntime) {
-    let told = REFUSED_TOLD;
-    for err in 0..told.len() {
+    let refused = REFUSED_TOLD;
+    for err in 0..refused.len() {
         let cut = run_on(&rt, rt.alloc(), REFUSED, Rooms { err, ..AMPLE });
-        let (front, _) = told.split_at(err);
+        let (front, _) = refused.split_at(err);
         assert!(rt; ended_so(&cut, Err(ProgramFault::Write), b"", front));
     }
-    let err = told.len();
+    let err = refused.len();
     let whole = run_on(&rt, rt.alloc(), REFUSED, Rooms { err, ..AMPLE });
-    assert!(rt; ended_so(&whole, Ok(Done { refused: 1 }), REFUSED_TEXT, told));
+    assert!(rt; ended_so(&whole, Ok(Done { refused: 1 }), REFUSED_TEXT, refused));
 }

@@ -1,7 +1,7 @@
 //! Runs of the program over known words and bytes.
 ghost use Rattle.std.specs.Prelude.{◌≡◌};
 
-use crate::disks::InMemory;
+use crate::fakes::InMemory;
 use sct_engine::{Done, Job, ProgramFault, Release, Storage, engine, run_over_std};
 use sct_streams::{Files, Reading, Writing};
 use std::alloc::Global;

@@ -5,7 +5,7 @@ pub(crate) struct Row {
     pub(crate) inputs: &'static [&'static [u8]],
     pub(crate) arrivals: usize,
     pub(crate) status: &'static [u8],
-    pub(crate) told: &'static str,
+    pub(crate) refused_text: &'static str,
     pub(crate) refused: u64,
 }
 
@@ -16,7 +16,7 @@ pub(crate) static ONE_SITE: Row = Row {
     ],
     arrivals: 1,
     status: b"T|BANKDEFFXXX|T1|PENDING\n",
-    told: "",
+    refused_text: "",
     refused: 0,
 };
 
@@ -28,7 +28,7 @@ pub(crate) static TWO_SITES: Row = Row {
     ],
     arrivals: 3,
     status: b"T|BANKDEFFXXX|T1|ACCEPTED\nT|BANKDEFFXXX|T2|PENDING\n",
-    told: "",
+    refused_text: "",
     refused: 0,
 };
 
@@ -41,6 +41,6 @@ pub(crate) static WITH_REFUSED: Row = Row {
     ],
     arrivals: 1,
     status: b"T|BANKDEFFXXX|T1|PENDING\n",
-    told: "file 2 line 1: 32\nfile 2 line 3: 33\n",
+    refused_text: "file 2 line 1: 32\nfile 2 line 3: 33\n",
     refused: 2,
 };

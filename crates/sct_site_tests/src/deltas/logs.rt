@@ -230,8 +230,8 @@ static REFUSED: [Refused; 7] = [
 // Whether the delta is refused as it should be, and the logs stay as they were.
 fn is_refused(alloc: Global, row: &Refused) -> Option<bool> {
     let mut logs = logs_of(alloc, row.held)?;
-    let told = refusal(alloc, &mut logs, row.own, row.delta)?;
-    Some(told == row.fault && cuts(alloc, &logs, &[], row.held))
+    let refused = refusal(alloc, &mut logs, row.own, row.delta)?;
+    Some(refused == row.fault && cuts(alloc, &logs, &[], row.held))
 }
 
 #[test]

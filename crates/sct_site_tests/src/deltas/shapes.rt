@@ -46,7 +46,7 @@ fn entries_at(alloc: Global, places: &[(u16, u64)]) -> Option<Vec<Entry>> {
 }
 
 // The number and the place of a fault.
-fn told(refusal: &DeltaFault) -> (u8, u64) {
+fn refused(refusal: &DeltaFault) -> (u8, u64) {
     match refusal {
         DeltaFault::BadDelta(place) => (refusal.number(), *place),
         _ => (refusal.number(), 0),
@@ -57,14 +57,14 @@ fn refused_entries(alloc: Global, places: &[(u16, u64)]) -> Option<(u8, u64)> {
     let entries = entries_at(alloc, places)?;
     match Delta::of(entries) {
         Ok(_) => Some((0, 0)),
-        Err(refusal) => Some(told(&refusal)),
+        Err(refusal) => Some(refused(&refusal)),
     }
 }
 
 fn refused_pairs(alloc: Global, pairs: &[(u16, u64)]) -> (u8, u64) {
     match Vector::of(alloc, pairs) {
         Ok(_) => (0, 0),
-        Err(refusal) => told(&refusal),
+        Err(refusal) => refused(&refusal),
     }
 }
 

@@ -4,15 +4,14 @@ ghost use Rattle.std.specs.Prelude.{◌≡◌, [], IfSome};
 ghost use Rattle.sct_desk.specs.Tilings.{AreOurs};
 
 use super::asking::{findings_text, recall_text, status_text, totals_text};
-use super::opening::opened_text;
-use super::other::learn_other;
+use super::other::{learn_other, opened_text};
 use super::texts::{accepted_text, cut_text, fault_text, receipt_text, taken_text};
 use anyhow::{Result, bail};
 use sct_delta::{Delta, Entry, Vector};
 use sct_desk::{Desk, Query, Receipt, Site};
-use sct_history::{History, Track};
 use sct_json::read_message;
 use sct_message::Message;
+use sct_site::{History, Track};
 use std::alloc::Global;
 use std::io::{BufRead, Write};
 use std::marker::Brand;
@@ -221,8 +220,8 @@ fn try_lines<J: Site, R: Wait, B: BufRead + Drop, W: Write>(
 {
     let mut trial = open::<J, R>(rt, alloc, history, track, group)?;
     for line in reader.lines(alloc) {
-        let told = trial.answer(rt, &line?)?;
-        out.write_all(told.as_bytes())?;
+        let text = trial.answer(rt, &line?)?;
+        out.write_all(text.as_bytes())?;
     }
     out.write_all(trial.close()?.as_bytes())?;
     Ok(())

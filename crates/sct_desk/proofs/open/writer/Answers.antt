@@ -1,7 +1,7 @@
 -- A desk that opens publishes the view of no message.
 use Rattle.std.proofs.Common.{◌∙◌}
 use Rattle.sct_desk.specs.Rules.{GoesOn}
-use Rattle.sct_desk.proofs.Batches.{nothing_goes_on}
+use Rattle.sct_desk.proofs.Updates.{nothing_goes_on}
 use Rattle.sct_desk.proofs.Showing.{publishes}
 use Rattle.sct_desk.proofs.open.writer.Goals as goal
 

@@ -2,7 +2,7 @@
 use Rattle.std.proofs.Common.{◌∙◌, ap, sym, subst, length, length-take-le, List, arith}
 use mathlib.Core.List.{IsPrefix}
 use Rattle.sct_delta.specs.Entries.{Placed}
-use Rattle.sct_desk.proofs.Batches.{next_arrives, prefix_take}
+use Rattle.sct_desk.proofs.Updates.{next_arrives, prefix_take}
 use Rattle.sct_desk.proofs.publishing.follow.Goals as goal
 
 pub add-requires-clause-next : goal.add-requires-clause-next

@@ -2,11 +2,12 @@
 use Rattle.std.proofs.Common.{◌∙◌, ap, refl, subst, ℕ, List, Ok, Err, length}
 use Rattle.sct_embed.specs.Outcomes.{done_as}
 use Rattle.sct_embed.specs.Places.{IsCopied}
+use Rattle.sct_embed.specs.declared.faults.EmbedFault.TheVariants as fault
 use Rattle.sct_embed.proofs.asking.say.Goals as goal
 
 pub returns-in-Ok-clause-said : goal.returns-in-Ok-clause-said
 returns-in-Ok-clause-said c =
-    let is = c.as_bytes.ensures.value ∙ c.in-Ok.ensures.text in
+    let is = c.as_bytes.ensures.value ∙ c.in-Ok.ensures in
     record {
       done = Ok tt;
       told = c.done.ensures ∙ ap (λ (n : ℕ). done_as (Ok tt) n) (c.copy_text.ensures.length ∙ ap length is);
@@ -18,10 +19,10 @@ returns-in-Ok-clause-said c =
 
 pub returns-in-Err-clause-said : goal.returns-in-Err-clause-said
 returns-in-Err-clause-said c = record {
-  done = Err c.in-Err.reason;
+  done = Err fault.Memory;
   told = c.refused.ensures;
   copied = tt;
-  err = c.in-Err.ensures.err;
+  err = refl;
   unwritten = refl;
   same = refl;
 }

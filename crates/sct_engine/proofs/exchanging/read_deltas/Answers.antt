@@ -14,9 +14,9 @@ returns-in_err-read_delta-clause-faults g c =
     (ends_at gives (λ path. path.now) c.args.paths.now c.loop-path.path-index _ c.loop-path.invariant.0.texts c.in_err-read_delta.field-0.0
     c.loop-path-test.true c.loop-path.invariant.0.given c.loop-path.invariant.0.within c.in_err-read_delta.ensures.faults)
 
-pub returns-in_err-push-clause-faults : goal.returns-in_err-push-clause-faults
-returns-in_err-push-clause-faults g c =
-    memory_at c.from_residual-in_err-push.result (g.R.Files.gives c.args.files.now) (λ path. path.now) c.args.paths.now c.loop-path.path-index
+pub returns-in_err-map_err-clause-faults : goal.returns-in_err-map_err-clause-faults
+returns-in_err-map_err-clause-faults g c =
+    memory_at c.from_residual-in_err-map_err.result (g.R.Files.gives c.args.files.now) (λ path. path.now) c.args.paths.now c.loop-path.path-index
     c.loop-path.invariant.0.texts c.loop-path-test.true c.loop-path.invariant.0.given c.loop-path.invariant.0.within (search rules)
 
 pub loop-path-preserved : goal.loop-path-preserved

@@ -28,7 +28,7 @@ returns-in_err-read_file-clause-faults g c =
     (ends_at gives (λ path. path.now) c.args.paths.now c.loop-path.path-index _ (bytes_of c.loop-path.inputs.items) c.in_err-read_file.field-0.0
     c.loop-path-test.true c.loop-path.invariant.0 c.loop-path.invariant.1 c.in_err-read_file.ensures.faults)
 
-pub returns-in_err-push-clause-faults : goal.returns-in_err-push-clause-faults
-returns-in_err-push-clause-faults g c =
-    memory_at c.from_residual-in_err-push.result (g.R.Files.gives c.args.files.now) (λ path. path.now) c.args.paths.now c.loop-path.path-index
+pub returns-in_err-map_err-clause-faults : goal.returns-in_err-map_err-clause-faults
+returns-in_err-map_err-clause-faults g c =
+    memory_at c.from_residual-in_err-map_err.result (g.R.Files.gives c.args.files.now) (λ path. path.now) c.args.paths.now c.loop-path.path-index
     (bytes_of c.loop-path.inputs.items) c.loop-path-test.true c.loop-path.invariant.0 c.loop-path.invariant.1 (search rules)

@@ -8,6 +8,6 @@ use Rattle.sct_keep.proofs.archives.archive_of.Goals as goal
 
 pub returns : goal.returns
 returns c =
-    c.in-Ok.ensures.ok
+    c.in_ok-add_all.ensures.ok
     ∙ ap (λ (s : MessageSet). set.union s (contents_of (messages_in c.args.messages.now))) c.new-archive.ensures
     ∙ union-of_none (contents_of (messages_in c.args.messages.now))

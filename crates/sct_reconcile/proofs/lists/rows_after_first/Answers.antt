@@ -1,5 +1,6 @@
 -- Each record more is a row more, or the first that is none.
-use Rattle.std.proofs.Common.{◌∙◌, sym, ap, subst, ◌+◌, Ok, Err, map, drop}
+use Rattle.std.proofs.Common.{◌≡◌, ◌∙◌, sym, ap, subst, ◌+◌, Ok, Err, map, drop, rules, true}
+use Rattle.std.specs.Result.{is_ok}
 use Rattle.csv.specs.Records.{fields_of}
 use Rattle.sct_reconcile.specs.Lists.{row_before, rows_below}
 use Rattle.sct_reconcile.specs.Turns.{GivesRows, onto}
@@ -19,11 +20,12 @@ returns-in_default c =
 
 pub loop-at-preserved : goal.loop-at-preserved
 loop-at-preserved c =
+    let pushed : is_ok c.push.result ≡ true = search rules in
     c.loop-at.invariant
     ∙ ap (onto c.loop-at.rows.items) (rows_step fields_of c.args.records.now c.loop-at.at c.index-records-at.result c.loop-at-test.true c.index-records-at.is
     ∙ ap (λ o. row_before o (c.loop-at.at + 1) (rows_below (c.loop-at.at + 1 + 1) (drop (c.loop-at.at + 1) (map fields_of c.args.records.now)))) (sym c.read_row.ensures ∙ c.in-Some.is))
     ∙ onto_more c.loop-at.rows.items c.in-Some.row _ (c.loop-at.at + 1)
-    ∙ ap (λ rows. onto rows (rows_below (c.loop-at.at + 1 + 1) (drop (c.loop-at.at + 1) (map fields_of c.args.records.now)))) (sym c.in_ok-push.ensures.items)
+    ∙ ap (λ rows. onto rows (rows_below (c.loop-at.at + 1 + 1) (drop (c.loop-at.at + 1) (map fields_of c.args.records.now)))) (sym (rw pushed at c.push.ensures.items))
 
 pub returns : goal.returns
 returns c =

@@ -3,7 +3,7 @@ use Rattle.std.proofs.Common.{◌≡◌, ◌∙◌, ◌++◌, ◌∷◌, [], Lis
 use Rattle.sct_journal.specs.Kept.{ended_lines}
 use Rattle.sct_site.specs.Cores.{Core}
 use Rattle.sct_requests.specs.Steps.{answer_to, answers_to, brings, brought, core_after, core_given}
-use Rattle.sct_requests.specs.declared.answers.Answer.{Answer}
+use Rattle.sct_requests.specs.declared.steps.Reply.{Reply}
 use Rattle.sct_requests.proofs.StepLemmas.{brought_next}
 use Rattle.sct_requests.proofs.steps.give_all.Goals as goal
 
@@ -17,7 +17,7 @@ loop-line-preserved c =
     record {
       core = ap (λ (x : Core). core_after x rest) given ∙ ap (core_after before) (sym next) ∙ c.loop-line.invariant.core;
       told =
-          ap (λ (l : List Answer). l ++ answers_to c.give_and_see.new.site.core rest) (c.in_ok-push.ensures.items ∙ ap (λ (a : Answer). c.loop-line.answers.items ++ a ∷ []) c.in_ok-answer.ensures.answer)
+          ap (λ (l : List Reply). l ++ answers_to c.give_and_see.new.site.core rest) (c.in_ok-push.ensures.items ∙ ap (λ (a : Reply). c.loop-line.answers.items ++ a ∷ []) c.in_ok-answer.ensures.answer)
           ∙ append_assoc c.loop-line.answers.items (answer_to before line ∷ []) (answers_to c.give_and_see.new.site.core rest)
           ∙ ap (λ (x : Core). c.loop-line.answers.items ++ answer_to before line ∷ answers_to x rest) given
           ∙ ap (λ (l : List (List ℕ)). c.loop-line.answers.items ++ answers_to before l) (sym next)

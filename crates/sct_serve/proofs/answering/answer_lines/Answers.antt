@@ -5,7 +5,7 @@ use Rattle.sct_streams.specs.Stream.{AppendsIfTold, AppendsPrefixIfTold}
 use Rattle.sct_journal.specs.Kept.{ended_lines, recorded}
 use Rattle.sct_keeper.specs.Keepers.{keeper_disk, watched_site_of}
 use Rattle.sct_requests.specs.WatchedSites.{WatchedSite}
-use Rattle.sct_requests.specs.declared.answers.Answer.{Answer}
+use Rattle.sct_requests.specs.declared.steps.Reply.{Reply}
 use Rattle.sct_site.specs.Cores.{Core}
 use Rattle.sct_serve.specs.Replies.{replies_to, reply_line}
 use Rattle.sct_serve.proofs.LeaveLemmas.{leaves_all, leaves_told, leaves_untold}
@@ -27,7 +27,7 @@ returns-in_err-write-clause-crash g c clean f left =
     let held = (g.K.Sink.state c.args.sink.now).held in
     let now = (g.K.Sink.state c.write.new.sink).held in
     let text : c.as_bytes.result.now ≡ replies_to s lines =
-    c.as_bytes.ensures.value ∙ c.in_ok-text.ensures ∙ ap (λ (l : List Answer). flat_map reply_line l) (c.deref.ensures.value ∙ c.in_ok-answers.ensures.answers) ∙ sym (quiet_replies lines s c.requires.none) in
+    c.as_bytes.ensures.value ∙ c.in_ok-text.ensures ∙ ap (λ (l : List Reply). flat_map reply_line l) (c.deref.ensures.value ∙ c.in_ok-answers.ensures.answers) ∙ sym (quiet_replies lines s c.requires.none) in
     leaves_told s (recorded (g.D.Disk.seen (keeper_disk c.args.keeper.now))) lines held now f
     (ap recorded (c.in_ok-answers.ensures.keeper.settled.durable f left) ∙ c.in_ok-answers.ensures.acknowledged clean)
     (subst (λ (l : List ℕ). AppendsPrefixIfTold held now l) text c.in_err-write.ensures.cut_off)
@@ -39,7 +39,7 @@ returns-clause-crash g c clean f left =
     let held = (g.K.Sink.state c.args.sink.now).held in
     let now = (g.K.Sink.state c.write.new.sink).held in
     let text : c.as_bytes.result.now ≡ replies_to s lines =
-    c.as_bytes.ensures.value ∙ c.in_ok-text.ensures ∙ ap (λ (l : List Answer). flat_map reply_line l) (c.deref.ensures.value ∙ c.in_ok-answers.ensures.answers) ∙ sym (quiet_replies lines s c.requires.none) in
+    c.as_bytes.ensures.value ∙ c.in_ok-text.ensures ∙ ap (λ (l : List Reply). flat_map reply_line l) (c.deref.ensures.value ∙ c.in_ok-answers.ensures.answers) ∙ sym (quiet_replies lines s c.requires.none) in
     leaves_all s (recorded (g.D.Disk.seen (keeper_disk c.args.keeper.now))) lines held now f
     (ap recorded (c.in_ok-answers.ensures.keeper.settled.durable f left) ∙ c.in_ok-answers.ensures.acknowledged clean)
     (subst (λ (l : List ℕ). AppendsIfTold held now l) text c.in_ok-write.ensures.written)
@@ -51,7 +51,7 @@ returns-clause-replied g c =
     let held = (g.K.Sink.state c.args.sink.now).held in
     let now = (g.K.Sink.state c.write.new.sink).held in
     let text : c.as_bytes.result.now ≡ replies_to s lines =
-    c.as_bytes.ensures.value ∙ c.in_ok-text.ensures ∙ ap (λ (l : List Answer). flat_map reply_line l) (c.deref.ensures.value ∙ c.in_ok-answers.ensures.answers) ∙ sym (quiet_replies lines s c.requires.none) in
+    c.as_bytes.ensures.value ∙ c.in_ok-text.ensures ∙ ap (λ (l : List Reply). flat_map reply_line l) (c.deref.ensures.value ∙ c.in_ok-answers.ensures.answers) ∙ sym (quiet_replies lines s c.requires.none) in
     record {
       ends = (λ i. watched_site_by (c.in_ok-answers.ensures.site i) (c.round.ensures.watched i)) ∙ sym (quiet_site lines s c.requires.none);
       replied = subst (λ (l : List ℕ). AppendsIfTold held now l) text c.in_ok-write.ensures.written;

@@ -16,7 +16,7 @@ returns c =
     evaluated (with_fresh c.args.held.now (option_copied c.args.fresh)) t _ _ _ c.in_ok-asides.asides.items _ (c.in_ok-sorted.ensures ∙ c.requires)
     c.in_ok-parted.ensures.clean c.in_ok-parted.ensures.contradicted
     (c.in_ok-asides.ensures ∙ ap (λ ms. ascending identity_order (map identity_of (messages_in ms))) c.deref.ensures.value)
-    (c.in-Ok.ensures ∙ (λ n. transfer_status_of t (messages_in (c.deref-2.ensures.value n)) (c.deref-3.ensures.value n)))
+    (c.in_ok-status.ensures ∙ (λ n. transfer_status_of t (messages_in (c.deref-2.ensures.value n)) (c.deref-3.ensures.value n)))
 
 pub part-requires : goal.part-requires
 part-requires c = calm_on (with_fresh c.args.held.now (option_copied c.args.fresh)) c.args.transfer.now _ (c.in_ok-sorted.ensures ∙ c.requires)

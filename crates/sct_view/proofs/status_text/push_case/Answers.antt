@@ -20,6 +20,6 @@ returns c = λ held is.
     (c.in_ok-push_recall_lines.ensures
     ∙ ap (λ (l : List (List ℕ × RecallStatus)). string_bytes c.push_findings.new.text ++ flat_map (λ recall. recall_line t recall.0 recall.1) l) c.deref-3.ensures.value
     ∙ ap (λ (l : List ℕ). string_bytes c.push_findings.new.text ++ l)
-    (lines_told held t kept is _ c.in-Ok.recalls.items (λ asides stands.
-    c.in-Ok.ensures asides (stands ∙ ap (λ ms. transfer_status_of t (messages_in ms) asides) (sym c.deref.ensures.value))
+    (lines_told held t kept is _ c.in_ok-recalls.recalls.items (λ asides stands.
+    c.in_ok-recalls.ensures asides (stands ∙ ap (λ ms. transfer_status_of t (messages_in ms) asides) (sym c.deref.ensures.value))
     ∙ ap (λ ms. map (λ cxl. (cxl, recall_status_of t (messages_in ms) asides cxl)) c.deref-2.result.now) c.deref.ensures.value)))

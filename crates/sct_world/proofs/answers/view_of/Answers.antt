@@ -6,8 +6,8 @@ use Rattle.sct_set.proofs.ContentsLemmas.{union-none}
 use Rattle.sct_set.proofs.LawLemmas.{commutative}
 use Rattle.sct_world.proofs.answers.view_of.Goals as goal
 
-pub returns-clause-ok : goal.returns-clause-ok
-returns-clause-ok c =
+pub returns : goal.returns
+returns c =
     c.in_ok-of.ensures
     ∙ c.in_ok-merge.ensures.ok
     ∙ ap (λ (s : Contents). set.union s c.args.archive.now) c.new-shared.ensures

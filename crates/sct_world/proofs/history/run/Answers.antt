@@ -13,7 +13,7 @@ use Rattle.sct_world.proofs.ExactlyLemmas.{exactly_of, world-push, outcomes-push
 use Rattle.sct_world.proofs.history.run.Goals as goal
 
 -- the events so far and this one
-more : (c : goal.In_ok-push) → take (c.loop-event.event-index + 1) c.args.events.now ≡ take c.loop-event.event-index c.args.events.now ++ c.event-item.result ∷ []
+more : (c : goal.In_ok-push_outcome) → take (c.loop-event.event-index + 1) c.args.events.now ≡ take c.loop-event.event-index c.args.events.now ++ c.event-item.result ∷ []
 more c =
     (take_at_read c.args.events.now c.loop-event.event-index c.event-item.result c.loop-event-test.true).1
     ∙ ap (λ (e : Event). take c.loop-event.event-index c.args.events.now ++ e ∷ []) (sym c.event-item.is)
@@ -22,16 +22,16 @@ pub loop-event-preserved : goal.loop-event-preserved
 loop-event-preserved c =
     let w : State = empty_world c.args.sites in
     let done : List Event = take c.loop-event.event-index c.args.events.now in (
-      c.in_ok-outcome.ensures.world
+      c.in_ok-push_outcome.ensures.world
           ∙ ap (λ (v : State). world_after v c.event-item.result) c.loop-event.invariant.0
           ∙ world-push w done c.event-item.result
           ∙ ap (world_after_all w) (sym (more c)),
-      c.in_ok-push.ensures.items
-          ∙ (λ i. c.loop-event.invariant.1 i ++ (c.in_ok-outcome.ensures.ok ∙ ap (λ (v : State). outcome_of v c.event-item.result) c.loop-event.invariant.0) i ∷ [])
+      c.in_ok-push_outcome.ensures.outcomes
+          ∙ (λ i. c.loop-event.invariant.1 i ++ ap (λ (v : State). outcome_of v c.event-item.result) c.loop-event.invariant.0 i ∷ [])
           ∙ outcomes-push w done c.event-item.result
           ∙ ap (outcomes_of w) (sym (more c)),
-      subst (λ (os : List Outcome). All IsNoForkOutcome os) (sym c.in_ok-push.ensures.items)
-          (All-push IsNoForkOutcome c.loop-event.outcomes.items c.in_ok-outcome.field-0 c.loop-event.invariant.2 c.in_ok-outcome.ensures.no_fork),
+      subst (λ (os : List Outcome). All IsNoForkOutcome os) (sym c.in_ok-push_outcome.ensures.outcomes)
+          (All-push IsNoForkOutcome c.loop-event.outcomes.items (outcome_of c.loop-event.world c.event-item.result) c.loop-event.invariant.2 c.in_ok-push_outcome.ensures.no_fork),
     )
 
 pub returns-clause-exactly : goal.returns-clause-exactly

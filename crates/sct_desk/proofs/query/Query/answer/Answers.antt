@@ -1,7 +1,7 @@
 -- A query sees no less than it has seen.
 use Rattle.std.proofs.Common.{refl, subst}
 use Rattle.std.specs.Prelude.{Err}
-use Rattle.sct_history.proofs.Prefixes.{prefix_self}
+use Rattle.sct_site.proofs.Prefixes.{prefix_self}
 use Rattle.sct_desk.specs.Answering.{AnswersFromView}
 use Rattle.sct_desk.specs.Passes.{Asked}
 use Rattle.sct_desk.specs.declared.fault.DeskFault.TheVariants as fault

@@ -30,5 +30,5 @@ returns-clause-shown c =
       shown = all_shown es c.apply.new.view (returns-clause-view c);
       watched = watched_more was later k es c.requires.shown.within c.requires.watched
           (subst (λ (held : MessageSet). IsLater was held (messages_of (drop k es)) later) c.requires.shown.held
-          (subst (λ (b : MessageSet). IsLater was c.args.self.now.view b later) batch c.in_ok-watch.ensures.later));
+          (subst (λ (b : MessageSet). IsLater was c.args.self.now.view b later) batch c.in_ok-watch.ensures));
     }

@@ -10,7 +10,7 @@ use Rattle.sct_site.specs.Ranges.{in_ranges}
 use Rattle.sct_site.specs.declared.ranges.LogRange.{LogRange}
 use Rattle.sct_world.specs.Inside.{deltas_kept, entries_kept, held_by, state_of}
 use Rattle.sct_world.specs.States.{State, held_at}
-use Rattle.sct_world.specs.declared.kept.KeptDelta.{KeptDelta}
+use Rattle.sct_world.specs.declared.world.KeptDelta.{KeptDelta}
 use Rattle.sct_world.proofs.KeepLemmas.{new_of_delta, shape_of_delta, shape_of_giver}
 use Rattle.sct_world.proofs.world.World.new_entries.Goals as goal
 

@@ -2,7 +2,7 @@
 use Rattle.std.proofs.Common.{◌∙◌, ap, sym, subst, List, All}
 use Rattle.std.proofs.lemmas.List.Elements.{All-nil}
 use Rattle.sct_world.specs.Inside.{deltas_kept, held_by, IsKeptDelta}
-use Rattle.sct_world.specs.declared.kept.KeptDelta.{KeptDelta}
+use Rattle.sct_world.specs.declared.world.KeptDelta.{KeptDelta}
 use Rattle.sct_world.proofs.OpenLemmas.{opened_state, opened_world}
 use Rattle.sct_world.proofs.world.World.open.Goals as goal
 

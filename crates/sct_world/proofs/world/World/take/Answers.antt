@@ -4,7 +4,7 @@ use Rattle.std.specs.Arc.{arc_value}
 use Rattle.sct_message.specs.declared.draft.Draft.{Draft}
 use Rattle.sct_site.specs.Cores.{Core}
 use Rattle.sct_world.specs.Inside.{deltas_kept}
-use Rattle.sct_world.specs.declared.kept.KeptDelta.{KeptDelta}
+use Rattle.sct_world.specs.declared.world.KeptDelta.{KeptDelta}
 use Rattle.sct_world.proofs.KeepLemmas.{grown_by_take, keeping_on, state_same}
 use Rattle.sct_world.proofs.WorldLemmas.{old_is, set_state, taken_is, world_taken, took_told}
 use Rattle.sct_world.proofs.world.World.take.Goals as goal

@@ -1,3 +1,0 @@
--- The definitions of histories.
-pub mod Rules
-pub mod Sights
