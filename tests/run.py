@@ -2,9 +2,9 @@
 
 A word names a kind of checks or one check. Without a word all checks run. A check is the module tests/KIND/NAME.py, whose last line
 is 'N passed, M failed'. A line reports what each check does, its numbers and its seconds. What a failed check printed follows, and the
-status that it ended with. A check that ends with another status than 0, or prints no numbers, has failed at least once. The last line
-is 'N passed, M failed' of all checks. The exit status is 0 if none has failed. harness.py has the variables that name other programs
-than those of the gate.
+status that it ended with. A check that ends with another status than 0, or prints no numbers, has failed at least once. At the end
+follows again what differed in each check that failed, and the last line is 'N passed, M failed' of all checks. The exit status is 0 if
+none has failed. harness.py has the variables that name other programs than those of the gate.
 
 --seed, --cases and --long are handed to the property checks (tests/property/cases.py), and to c_calls, serve_lives and serve_hub. A check
 is skipped, and has not passed, if the machine lacks a Debian package that it needs. Some skip a part, or all if the library or the page
@@ -26,7 +26,7 @@ import signal
 import subprocess
 import sys
 import time
-from typing import Any, Iterator
+from typing import Any, Iterator, NamedTuple
 from concurrent.futures import ThreadPoolExecutor
 if sys.version_info < (3, 8):
     sys.exit("run: this needs Python 3.8 or later")
@@ -202,6 +202,13 @@ def end_all(group: int) -> None:
         os.killpg(group, signal.SIGKILL)
 
 
+# how much of a check passed, how much failed, and what differed or was skipped in it, else how it ended
+class Checked(NamedTuple):
+    passed: int
+    failed: int
+    lines: list[str]
+
+
 def ran(module: str, words: list[Any]) -> tuple[int, int, list[str], float]:
     """How much of a check passed, how much failed, the lines that it printed, with how it ended, and its seconds."""
     began = time.monotonic()
@@ -223,10 +230,10 @@ def ran(module: str, words: list[Any]) -> tuple[int, int, list[str], float]:
     return passed, failed, lines.splitlines() + [f"ended with status {status}"], time.monotonic() - began
 
 
-def skipped(why: Any, is_failed: Any) -> Any:
+def skipped(why: str, is_failed: bool) -> Checked:
     """Prints why a check is skipped. What it comes to is a failure if nothing may be skipped."""
     print(f"{SKIPPED}{why}", flush=True)
-    return 0, int(is_failed)
+    return Checked(0, int(is_failed), [f"{SKIPPED}{why}"])
 
 
 def words_of(name: str, kind: str, made_up: cases.Cases) -> list[Any]:
@@ -234,8 +241,8 @@ def words_of(name: str, kind: str, made_up: cases.Cases) -> list[Any]:
     return made_up.words() if kind == "property" or name in SEEDED else []
 
 
-def checked(name: str, kind: str, does: str, made_up: cases.Cases, no_skips: bool, running: dict[Any, Any]) -> tuple[int, int]:
-    """How much of a check passed and how much failed, which is printed too. It may be running already."""
+def checked(name: str, kind: str, does: str, made_up: cases.Cases, no_skips: bool, running: dict[Any, Any]) -> Checked:
+    """What came of a check, which is printed too. It may be running already."""
     words = words_of(name, kind, made_up)
     print(f"{name} {does}" + (f", with {' '.join(words)}: " if words else ": "), end="", flush=True)
     missing = lacking(PACKAGES.get(name, []))
@@ -251,7 +258,7 @@ def checked(name: str, kind: str, does: str, made_up: cases.Cases, no_skips: boo
     print(f"{passed} passed, {failed} failed, {seconds:.0f} seconds", flush=True)
     for line in lines if failed else [line for line in lines if line.startswith((SKIPPED, "program: "))]:
         print(f"  {line}", flush=True)
-    return passed, failed
+    return Checked(passed, failed, [line for line in lines if line.endswith(": DIFFERS") or line.startswith(SKIPPED)] or lines[-1:])
 
 
 def at(seconds: float) -> str:
@@ -277,8 +284,12 @@ def main() -> None:
     with ThreadPoolExecutor() as pool:
         running = {name: pool.submit(ran, f"tests.{kind}.{name}", words_of(name, kind, made_up)) for name, kind, _ in chosen
                    if name in BESIDE and not lacking(PACKAGES.get(name, []))}
-        found = [checked(*one, made_up, asked.no_skips, running) for one in sorted(chosen, key=lambda one: one[0] in BESIDE)]
-    harness.end_with(found)
+        ordered = sorted(chosen, key=lambda one: one[0] in BESIDE)
+        found = [checked(*one, made_up, asked.no_skips, running) for one in ordered]
+    for (name, *_), one in zip(ordered, found):
+        for line in one.lines if one.failed else []:
+            print(f"failed: {name}: {line}", flush=True)
+    harness.end_with([(one.passed, one.failed) for one in found])
 
 
 if __name__ == "__main__":
