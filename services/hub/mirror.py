@@ -6,7 +6,8 @@ that they have, and the time at which that was so. When nothing has come for a m
 
 It opens the stream of changes, and then loads the complete texts. From then on it replaces the rows of each transfer that an event names.
 A site says what changes only while somebody listens. So after a break the mirror goes on after its last event if the site still has the
-vector of the tables, and else it loads all again. What somebody removes or drops of the database is made again.
+vector of the tables, and else it loads all again. What somebody removes or drops of the database is made again, also if it is only the log
+of SQLite beside the file.
 
 Usage: mirror.py [--once | --compare] [--token-file FILE] [--cert FILE --key FILE] [--ca FILE] URL DATABASE
 
@@ -318,17 +319,17 @@ class Lock:
             raise Stop(f"{self.path} cannot be made: {fault.strerror}") from None
 
     def hold(self) -> None:
-        if self.file is None or not is_file(self.path, os.fstat(self.file)):
+        if self.file is None or inode_of(self.path) != inode_of(self.file):
             self.take()
 
 
-def is_file(path: str, known: os.stat_result) -> bool:
-    """Whether a path is still that of a file that is known."""
+def inode_of(file: str | int) -> tuple[int, int] | None:
+    """Which file has a path, or is open. None if there is none."""
     try:
-        status = os.stat(path)
+        status = os.stat(file)
     except FileNotFoundError:
-        return False
-    return (status.st_dev, status.st_ino) == (known.st_dev, known.st_ino)
+        return None
+    return status.st_dev, status.st_ino
 
 
 def schema_of(connection: sqlite3.Connection) -> set[tuple[str, str]]:
@@ -365,10 +366,10 @@ def fill(connection: sqlite3.Connection, rows: dict[str, Iterable[Sequence[Any]]
 class Database:
     """The database. Each change of it is one transaction."""
     _open: sqlite3.Connection | None
-    file: os.stat_result | None
+    files: dict[str, tuple[int, int] | None]  # the file, its log and the index of the log, as they were opened
 
     def __init__(self, path: str) -> None:
-        self.path, self._open, self.file = path, None, None
+        self.path, self._open, self.files = path, None, {}
 
     @property
     def connection(self) -> sqlite3.Connection:
@@ -381,7 +382,7 @@ class Database:
         """Opens the file, or makes it. Stop if it is a database of something else."""
         self.close()
         if not os.path.exists(self.path):
-            remove(f"{self.path}-wal", f"{self.path}-shm")  # of a file that was removed
+            remove(*self._beside())  # of a file that was removed
         try:
             self._open = sqlite3.connect(self.path, timeout=BUSY, isolation_level=None)
         except sqlite3.OperationalError as fault:
@@ -394,7 +395,22 @@ class Database:
         self._row("PRAGMA journal_mode = WAL")
         self._row(f"PRAGMA journal_size_limit = {MOST_LOG}")
         self.connection.execute("PRAGMA synchronous = NORMAL")
-        self.file = os.stat(self.path)
+        self._row("SELECT count(*) FROM sqlite_master")  # from the first reading on, the log and its index are there
+        self.files = self._found()
+
+    def _beside(self) -> list[str]:
+        """The files that SQLite has beside the database while it is open: the log, and its index."""
+        return [f"{self.path}-wal", f"{self.path}-shm"]
+
+    def _found(self) -> dict[str, tuple[int, int] | None]:
+        return {path: inode_of(path) for path in [self.path, *self._beside()]}
+
+    def open_again(self) -> None:
+        """Opens the file of which somebody removed a part: others would not see what it has. What is left of it is removed first."""
+        self.close()
+        if inode_of(self.path) == self.files.get(self.path):
+            remove(self.path, *self._beside())
+        self.open()
 
     def close(self) -> None:
         if self._open:
@@ -412,7 +428,7 @@ class Database:
         return row and State(*row)
 
     def is_removed(self) -> bool:
-        return self.file is None or not is_file(self.path, self.file)
+        return None in self.files.values() or self.files != self._found()
 
     def messages(self) -> int:
         return self._row("SELECT count(*) FROM message")[0]
@@ -521,7 +537,7 @@ class Mirror:
         """Whether nobody removed the database or dropped a table. A file that was removed is made again."""
         self.lock.hold()
         if self.database.is_removed():
-            self.database.open()
+            self.database.open_again()
         return self.database.state() is not None
 
     def _bring(self, news: News) -> None:

@@ -35,6 +35,7 @@ from tests.property.views import touched
 MIRROR, DASHBOARD, DESK = SERVICES / "hub" / "mirror.py", SERVICES / "hub" / "dashboard.json", harness.DESK
 KILLS, LINES, SEED = 10, 500, 20261128
 PACE = 0.25  # seconds between two posts of a client, so that kills meet posts
+SOON = 1.0  # seconds in which a change is in the tables
 PYTHON = sys.executable  # a mirror needs no package
 
 
@@ -363,14 +364,23 @@ def follows(trial):
             messages = messages_of([line for line in lines.split(b"\n") if line])
             yield f"after post {number} the tables are the texts", equals(mirror.path, messages, vector_of(hub.port))
         yield "the messages have what they must", len(messages) > 100 and any(len(message[2]) > 5 for message in messages)
-        asked(hub.port, "/messages", samples.line(instruction("T/2")).encode())
-        question = "SELECT status FROM transfer WHERE transfer_id = 'T/2'"
-        yield "a changed transfer is there", until(lambda: rows_in(mirror.path, question) == [("PENDING",)])
-        messages.add(oracle.read_message(samples.line(instruction("T/2")).encode()))
+        late: list[float] = []  # of some changes one at least is there soon: a loaded machine may need longer for others
+        while len(late) < 8 and min(late, default=SOON) >= SOON:
+            message = instruction(f"T/2{len(late)}")
+            late.append(seconds_until_there(hub, mirror, message))
+            messages.add(oracle.read_message(samples.line(message).encode()))
+        yield f"a changed transfer is there soon, after {min(late):.2f} seconds", min(late) < SOON
         yield "and all that comes of it", equals(mirror.path, messages, vector_of(hub.port))
-        yield from describes_itself(hub, mirror, len(posts) + 1)
+        yield from describes_itself(hub, mirror, len(posts) + len(late))
         yield "it loaded all once", mirror.loads() == 1
         yield "it ends in peace", mirror.end() == 0 and has(mirror.path, messages)
+
+
+def seconds_until_there(hub, mirror, message):
+    """The seconds from the acknowledgement of an instruction until its transfer is in the tables."""
+    asked(hub.port, "/messages", samples.line(message).encode())
+    began, question = time.monotonic(), f"SELECT status FROM transfer WHERE transfer_id = '{message['TxId']}'"
+    return time.monotonic() - began if until(lambda: rows_in(mirror.path, question) == [("PENDING",)]) else float(sites.LATEST)
 
 
 def describes_itself(hub, mirror, events):
@@ -507,10 +517,11 @@ def is_made_again(trial):
             does(mirror.path, done)
             yield name, until(is_right) and until(lambda: rows_in(mirror.path, index) == [("message_on",)])
         yield "the view stays", len(rows_in(mirror.path, "SELECT * FROM mine")) == 3
-        for which in ([""], ["", "-wal", "-shm"], ["", "-wal", "-shm", ".lock"]):
+        for which in ([""], ["-wal"], ["-shm"], ["", "-wal", "-shm"], ["", "-wal", "-shm", ".lock"]):
             for end in which:
-                pathlib.Path(f"{mirror.path}{end}").unlink()
-            yield f"files removed: {len(which)}", until(lambda: mirror.path.exists() and is_right())
+                pathlib.Path(f"{mirror.path}{end}").unlink(missing_ok=True)  # the mirror may have removed it
+            site.take(instruction(f"E{' '.join(which)}"))
+            yield f"files removed: {' '.join(which)}", until(lambda: mirror.path.exists() and is_right())
         site.take(instruction("D"))
         yield "and it goes on", is_right() and mirror.process.poll() is None
         yield from has_one_mirror(site, mirror)

@@ -1,4 +1,5 @@
 """library.py: answers the calls of library.c, which is the other side, by the definitions of tests/embed/model.py."""
+import os
 import pathlib
 import struct
 import sys
@@ -30,4 +31,7 @@ def main():
 
 
 if __name__ == "__main__":
-    main()
+    try:
+        main()
+    except BrokenPipeError:
+        os._exit(0)  # who asked was killed
