@@ -34,11 +34,11 @@ use Rattle.sct_case.proofs.Exact.{told_is_found, found_is_told}
 
 -- ---- the messages of a set
 
-held_in : (held : MessageSet) (m : Draft) → set.contains held m ≡ true → Contains (set.items held) m
-held_in held m h = Contains-from_any (tie_is message_total message_same) m (set.items held) (sym (contains-items held m) ∙ h)
+pub in_items : (held : MessageSet) (m : Draft) → set.contains held m ≡ true → Contains (set.items held) m
+in_items held m h = Contains-from_any (tie_is message_total message_same) m (set.items held) (sym (contains-items held m) ∙ h)
 
-in_held : (held : MessageSet) (m : Draft) → Contains (set.items held) m → set.contains held m ≡ true
-in_held held m h = contains-items held m ∙ any_tie message_total message_same (set.items held) m h
+pub held_from : (held : MessageSet) (m : Draft) → Contains (set.items held) m → set.contains held m ≡ true
+held_from held m h = contains-items held m ∙ any_tie message_total message_same (set.items held) m h
 
 message-Decides : (m n : Draft) → Decides (same_message m n) (m ≡ n)
 message-Decides = ties-Decides message_total message_same
@@ -123,7 +123,7 @@ not_found t clean asides apart none f h = nothing f (subst (λ fs. Contains fs f
 pub contradictions_stay : ContradictionsStay
 contradictions_stay held larger t within found none =
     let no = not_found t (messages_on larger t) (asides_of larger t) (messages_apart larger t) none in
-    let items : (m : Draft) → Contains (set.items held) m → Contains (set.items larger) m = λ m h. held_in larger m (within m (in_held held m h)) in
+    let items : (m : Draft) → Contains (set.items held) m → Contains (set.items larger) m = λ m h. in_items larger m (within m (held_from held m h)) in
     let aside : (i : Identity) → Contains (asides_of held t) i → Contains (asides_of larger t) i =
     λ i h.
     let r = in_map identity_of (filter (is_on t) (contradicted_messages held)) i (in_ascending identity_total identities_same _ i h) in

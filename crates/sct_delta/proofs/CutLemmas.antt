@@ -25,11 +25,11 @@ use Rattle.sct_delta.proofs.EntryLemmas.{from-append, from-numbered, from-number
 is_less : (a b : ℕ) → nat_cmp a b ≡ Less → a < b
 is_less a b e = grind (arith, nat_tests)
 
-less_is : (a b : ℕ) → a < b → nat_cmp a b ≡ Less
+pub less_is : (a b : ℕ) → a < b → nat_cmp a b ≡ Less
 less_is a b e = grind (arith, nat_tests)
 
-other : (a b : ℕ) → a < b → nat_eq b a ≡ false
-other a b e = grind (arith, nat_tests)
+pub lower_differs : (a b : ℕ) → a < b → nat_eq b a ≡ false
+lower_differs a b e = grind (arith, nat_tests)
 
 tied : (o k : ℕ) → is_eq (nat_cmp o k) ≡ true → k ≡ o
 tied o k e = grind (arith, nat_tests)
@@ -54,7 +54,7 @@ module _ {X : Type 0} (list : ℕ → X → List Draft) (count : ℕ → ℕ) wh
   none_later o [] later = refl
   none_later o (e ∷ es) later =
       from-append o (part e) (flat_map part es)
-      ∙ (λ i. from-numbered_other o e.0 (count e.0 + 1) (drop (count e.0) (list e.0 e.1)) (other o e.0 (is_less _ _ later.0)) i ++ none_later o es later.1 i)
+      ∙ (λ i. from-numbered_other o e.0 (count e.0 + 1) (drop (count e.0) (list e.0 e.1)) (lower_differs o e.0 (is_less _ _ later.0)) i ++ none_later o es later.1 i)
 
   -- what the list of the origin itself gives
   own : (o : ℕ) (e : ℕ × X) → e.0 ≡ o → entries_from o (part e) ≡ numbered o (count o + 1) (drop (count o) (list o e.1))

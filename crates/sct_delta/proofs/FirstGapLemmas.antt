@@ -20,6 +20,7 @@ use Rattle.sct_delta.proofs.HeldLemmas.{holds_from}
 use Rattle.sct_delta.proofs.JoinLemmas.{first_reached, is_the_first, swapped, told_none}
 use Rattle.sct_delta.proofs.RoomLemmas.{none_of_earlier, first_rises}
 use Rattle.sct_delta.proofs.ShapeLemmas.{none_of_0}
+use Rattle.sct_delta.proofs.CutLemmas.{lower_differs}
 
 -- ---- the entry that the search finds
 
@@ -36,9 +37,6 @@ none_is_some e is = cc
 
 unskip : (o : ℕ) (x : Placed) (es fs : List Placed) → nat_eq x.origin o ≡ false → entries_from o (x ∷ es) ≡ fs → entries_from o es ≡ fs
 unskip o x es fs other is = sym (λ i. cond (other i) (x ∷ entries_from o es) (entries_from o es)) ∙ is
-
-lower_differs : (a b : ℕ) → a < b → nat_eq b a ≡ false
-lower_differs a b below = grind (arith, nat_tests)
 
 none_there : (n k : ℕ) → n ≡ 0 → n ≡ suc k → ⊥
 none_there n k none some = omega (arith, none, some)

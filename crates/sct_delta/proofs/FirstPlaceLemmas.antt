@@ -5,14 +5,15 @@ use Rattle.std.specs.List.{AllByRecursion, list_all}
 use Rattle.std.specs.List.Sorted.{IsStrictlySortedBy}
 use Rattle.std.specs.Ordering.{nat_cmp}
 use Rattle.std.specs.declared.cmp.Ordering.TheVariants.{Less}
-use Rattle.std.proofs.lemmas.Bool.{and_parts}
+use Rattle.std.proofs.lemmas.Bool.{and_parts, ltb-true}
 use Rattle.std.proofs.lemmas.Bool.Decides.{nat_tests}
 use Rattle.sct_delta.specs.Entries.{Placed, IsDelta}
 use Rattle.sct_delta.specs.Laws.{EndsAt, MakeVector, PairsMakeAVector, ReportsTheFirstEntry, ReportsTheFirstPair}
 use Rattle.sct_delta.specs.Shapes.{are_of_sites, are_origins_sites, delta_refusal, first_break, first_fall, may_be_next, vector_refusal}
 use Rattle.sct_delta.specs.Sites.{is_site}
 use Rattle.sct_delta.specs.declared.fault.DeltaFault.TheVariants as fault
-use Rattle.sct_delta.proofs.ShapeLemmas.{delta_from_unbroken, delta_unbroken, refused_nowhere}
+use Rattle.sct_delta.proofs.ShapeLemmas.{delta_from_unbroken, delta_unbroken, refused_nowhere, unbroken}
+use Rattle.sct_delta.proofs.CutLemmas.{less_is}
 
 -- ---- a place that is reported
 
@@ -29,9 +30,6 @@ reached place = grind (arith, nat_tests)
 
 in_order : (a b : ℕ) → nat_lt a b ≡ false → nat_lt b a ≡ false → a ≡ b
 in_order a b e f = grind (arith, nat_tests)
-
-below_it : (a b : ℕ) → nat_lt a b ≡ true → a < b
-below_it a b e = grind (arith, nat_tests)
 
 none_is_some : (place : ℕ) → None ≡ Some place → ⊥
 none_is_some place e = cc
@@ -54,12 +52,12 @@ module _ {X : Type 0} (P : List X → Type 0) (report : List X → Option ℕ) (
         | Some other ↦ λ is.
             let not_after : nat_lt place other ≡ false =
             elim (nat_lt place other) as (λ b. nat_lt place other ≡ b → b ≡ false) [
-              | true ↦ λ t. absurd (ends.at (from place (cut place ∙ ap (below (1 + place)) is ∙ ap (λ (b : Bool). cond b (Some other) None) (not_yet other place (below_it place other t)))))
+              | true ↦ λ t. absurd (ends.at (from place (cut place ∙ ap (below (1 + place)) is ∙ ap (λ (b : Bool). cond b (Some other) None) (not_yet other place (ltb-true place other t)))))
               | false ↦ λ t. refl
             ] refl in
             let not_before : nat_lt other place ≡ false =
             elim (nat_lt other place) as (λ b. nat_lt other place ≡ b → b ≡ false) [
-              | true ↦ λ t. absurd (none_is_some other (sym (to other (ends.before other (below_it other place t))) ∙ cut other ∙ ap (below (1 + other)) is ∙ ap (λ (b : Bool). cond b (Some other) None) (reached other)))
+              | true ↦ λ t. absurd (none_is_some other (sym (to other (ends.before other (ltb-true other place t))) ∙ cut other ∙ ap (below (1 + other)) is ∙ ap (λ (b : Bool). cond b (Some other) None) (reached other)))
               | false ↦ λ t. refl
             ] refl in
             ap (λ (p : ℕ). Some p) (in_order other place not_before not_after)
@@ -147,28 +145,21 @@ first_entry entries place = (
 abbrev origins_of : List (ℕ × ℕ) → List ℕ
 origins_of ps = map (λ p. p.0) ps
 
-less_than : (a b : ℕ) → a < b → nat_cmp a b ≡ Less
-less_than a b below = grind (arith, nat_tests)
-
 than_less : (a b : ℕ) → nat_cmp a b ≡ Less → nat_lt a b ≡ true
 than_less a b less = grind (arith, nat_tests, less)
-
-unfallen : (b : Bool) (rest : Option ℕ) (place : ℕ) → cond b rest (Some place) ≡ None → (b ≡ true) × (rest ≡ None)
-unfallen true rest place none = (refl, none)
-unfallen false rest place none = cc
 
 all_higher : (place before a : ℕ) (ps : List (ℕ × ℕ)) → first_fall place before ps ≡ None → a ≤ before → AllByRecursion (λ o. nat_cmp a o ≡ Less) (origins_of ps)
 all_higher place before a [] none low = tt
 all_higher place before a (p ∷ ps) none low =
-    let parts = unfallen (nat_lt before p.0) (first_fall (place + 1) p.0 ps) place none in
-    let above : before < p.0 = below_it before p.0 parts.0 in
-    (less_than a p.0 (omega (arith, above, low)), all_higher (place + 1) p.0 a ps parts.1 (omega (arith, above, low)))
+    let parts = unbroken (nat_lt before p.0) (first_fall (place + 1) p.0 ps) place none in
+    let above : before < p.0 = ltb-true before p.0 parts.0 in
+    (less_is a p.0 (omega (arith, above, low)), all_higher (place + 1) p.0 a ps parts.1 (omega (arith, above, low)))
 
 ascend_unfallen : (place before : ℕ) (ps : List (ℕ × ℕ)) → first_fall place before ps ≡ None → IsStrictlySortedBy nat_cmp (origins_of ps)
 unfolding IsStrictlySortedBy
 ascend_unfallen place before [] none = tt
 ascend_unfallen place before (p ∷ ps) none =
-    let parts = unfallen (nat_lt before p.0) (first_fall (place + 1) p.0 ps) place none in
+    let parts = unbroken (nat_lt before p.0) (first_fall (place + 1) p.0 ps) place none in
     (all_higher (place + 1) p.0 p.0 ps parts.1 (omega arith), ascend_unfallen (place + 1) p.0 ps parts.1)
 
 unfallen_ascending : (place before : ℕ) (ps : List (ℕ × ℕ)) → AllByRecursion (λ o. nat_cmp before o ≡ Less) (origins_of ps) → IsStrictlySortedBy nat_cmp (origins_of ps) → first_fall place before ps ≡ None

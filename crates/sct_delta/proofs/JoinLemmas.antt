@@ -35,7 +35,7 @@ told_none tells p (d ∷ ds) none =
       | false ↦ λ e. told_none tells p ds e
     ] none
 
-none_told : (tells : Placed → DeltaFault) (p : Placed → Bool) (ds : List Placed) → list_any p ds ≡ false → fault_of_entry tells (find p ds) ≡ None
+pub none_told : (tells : Placed → DeltaFault) (p : Placed → Bool) (ds : List Placed) → list_any p ds ≡ false → fault_of_entry tells (find p ds) ≡ None
 none_told tells p [] none = refl
 none_told tells p (d ∷ ds) none =
     let parts : (p d ≡ false) × (list_any p ds ≡ false) = or_parts (p d) (list_any p ds) none in
@@ -123,7 +123,7 @@ fresh_of_run log o f (m ∷ ms) above none =
     fresh_of_run log o (f + 1) ms (omega arith) parts.1 in
     λ i. cond (fresh_at (log o) f m above parts.0 i) (entry ∷ rest i) (rest i)
 
-all_above : (o h n : ℕ) (ms : List Draft) → h < n → filter (λ e. nat_lt h e.n) (numbered o n ms) ≡ numbered o n ms
+pub all_above : (o h n : ℕ) (ms : List Draft) → h < n → filter (λ e. nat_lt h e.n) (numbered o n ms) ≡ numbered o n ms
 all_above o h n [] above = refl
 all_above o h n (m ∷ ms) above = rw (lt-ltb h n above) (ap (λ (l : List Placed). record { origin = o; n = n; message = m } ∷ l) (all_above o h (n + 1) ms (omega arith)))
 

@@ -42,7 +42,7 @@ same_list [] (y ∷ ys) same = let first = same zero in cc
 same_list (x ∷ xs) [] same = let first = same zero in cc
 same_list (x ∷ xs) (y ∷ ys) same = λ i. same_Some x y (same zero) i ∷ same_list xs ys (λ k. same (suc k)) i
 
-at_place : (ms : List Draft) (i : ℕ) → message_at ms (i + 1) ≡ slice_get ms i
+pub at_place : (ms : List Draft) (i : ℕ) → message_at ms (i + 1) ≡ slice_get ms i
 at_place ms i = (λ j. cond (not_zero (i + 1) (omega arith) j) None (slice_get ms (i + 1 - 1))) ∙ ap (slice_get ms) (omega arith)
 
 -- logs that hold the same entries are the same
@@ -115,16 +115,16 @@ cuts_nothing log delta is = none_of_any delta (λ o. is o ∙ ap (numbered o (ve
 pub joins_both : JoinsBothSides
 joins_both own group log delta shape none = joins own group log delta shape (passed own group log delta none)
 
-longer : (a b : List Draft) (i : ℕ) (m : Draft) → slice_get a i ≡ Some m → slice_get (a ++ b) i ≡ Some m
-longer [] b i m e = cc
-longer (x ∷ a) b zero m e = e
-longer (x ∷ a) b (suc i) m e = longer a b i m e
+pub got_longer : {X : Type 0} (a b : List X) (i : ℕ) (m : X) → slice_get a i ≡ Some m → slice_get (a ++ b) i ≡ Some m
+got_longer [] b i m e = cc
+got_longer (x ∷ a) b zero m e = e
+got_longer (x ∷ a) b (suc i) m e = got_longer a b i m e
 
 stays_at : (a b : List Draft) (n : ℕ) (m : Draft) → is_same_as m (message_at a n) ≡ true → is_same_as m (message_at (a ++ b) n) ≡ true
 stays_at a b n m e =
     elim (nat_eq n 0) as (λ z. is_same_as m (cond z None (slice_get a (n - 1))) ≡ true → is_same_as m (cond z None (slice_get (a ++ b) (n - 1))) ≡ true) [
       | true ↦ λ f. f
-      | false ↦ λ f. ap (is_same_as m) (longer a b (n - 1) m (some_there m (slice_get a (n - 1)) f)) ∙ message_itself m
+      | false ↦ λ f. ap (is_same_as m) (got_longer a b (n - 1) m (some_there m (slice_get a (n - 1)) f)) ∙ message_itself m
     ] e
 
 pub keeps : KeepsWhatWasHeld

@@ -16,7 +16,8 @@ use Rattle.std.proofs.Math.Seq.{take-append_seam, drop-append-add}
 use Rattle.sct_delta.specs.Shapes.{are_origins_sites, count_among, first_fall, vector_refusal}
 use Rattle.sct_delta.specs.Sites.{is_site, most_sites}
 use Rattle.sct_delta.specs.VectorText.{CountsTheSame, IsReadBack, Pair, is_colon, is_comma, joined_pairs, pair_in, pair_text, pairs_among, pairs_in, pairs_of, pairs_text, pairs_to, vector_in, vector_of_pairs, vector_text, with_pair}
-use Rattle.sct_delta.proofs.TextLemmas.{number_read, numerals, passed}
+use Rattle.sct_delta.proofs.TextLemmas.{number_read, numerals, passed, site_below}
+use Rattle.sct_delta.proofs.ShapeLemmas.{unbroken}
 
 -- pairs in front of the others
 abbrev pub before_pairs : List Pair → Option (List Pair) → Option (List Pair)
@@ -139,16 +140,13 @@ pub record IsCounted (pair : Pair) : Type 0 where
   pub site : is_site pair.0 ≡ true
   pub small : pair.1 < 2 ^ 64
 
-site_small : (n : ℕ) → is_site n ≡ true → n < 2 ^ 64
-site_small n site = grind (arith, nat_tests)
-
 digits : (n : ℕ) → n < 2 ^ 64 → AllDigits 10 (decimal n)
 digits n small = numerals.to (decimal n) (digits_decimal numerals n small)
 
 pub pair_read : (pair : Pair) → IsCounted pair → pair_in (pair_text pair) ≡ Some pair
 unfolding pair_in
 pair_read pair is =
-    let small : pair.0 < 2 ^ 64 = site_small pair.0 is.site in
+    let small : pair.0 < 2 ^ 64 = site_below pair.0 is.site in
     rw (
       colon_behind (decimal pair.0) (decimal pair.1) (digits pair.0 small),
       take-append_seam (decimal pair.0) (58 ∷ decimal pair.1),
@@ -169,7 +167,7 @@ around_colon [] t first second = All-cons (λ (x : ℕ). is_comma x ≡ false) 5
 around_colon (c ∷ cs) t first second = All-cons (λ (x : ℕ). is_comma x ≡ false) c (cs ++ 58 ∷ t) (no_comma_in c first.0) (around_colon cs t first.1 second)
 
 pair_no_comma : (pair : Pair) → IsCounted pair → All (λ c. is_comma c ≡ false) (pair_text pair)
-pair_no_comma pair is = around_colon (decimal pair.0) (decimal pair.1) (digits pair.0 (site_small pair.0 is.site)) (digits pair.1 is.small)
+pair_no_comma pair is = around_colon (decimal pair.0) (decimal pair.1) (digits pair.0 (site_below pair.0 is.site)) (digits pair.1 is.small)
 
 -- each of the pairs is one
 abbrev pub AreCounted : List Pair → Type 0
@@ -195,7 +193,7 @@ pub pairs_read : (pairs : List Pair) → AreCounted pairs → pairs_in (pairs_te
 unfolding pairs_in
 pairs_read [] are = refl
 pairs_read (first ∷ pairs) are =
-    let small : first.0 < 2 ^ 64 = site_small first.0 are.0.site in
+    let small : first.0 < 2 ^ 64 = site_below first.0 are.0.site in
     let rest : List ℕ = flat_map (λ next. 44 ∷ pair_text next) pairs in
     let other : pointwise nat_eq (joined_pairs (first ∷ pairs)) (codes "-") ≡ false =
     ap (λ (t : List ℕ). pointwise nat_eq t (codes "-")) (append_assoc (decimal first.0) (58 ∷ decimal first.1) rest)
@@ -250,15 +248,11 @@ sites_of (pair ∷ pairs) are = and_from _ _ are.0.site (sites_of pairs are.1)
 below_next : (n last : ℕ) → n ≤ last → nat_lt n (suc last) ≡ true
 below_next n last at = grind (arith, nat_tests)
 
-rising : (b : Bool) (o : Option ℕ) (place : ℕ) → cond b o (Some place) ≡ None → (b ≡ true) × (o ≡ None)
-rising true o place e = (refl, e)
-rising false o place e = cc
-
 falls_append : (last place before : ℕ) (pairs : List Pair) (k : ℕ) → AreTo last pairs → before ≤ last → first_fall place before pairs ≡ None
     → first_fall place before (pairs ++ (suc last, k) ∷ []) ≡ None
 falls_append last place before [] k are at none = rw (below_next before last at) refl
 falls_append last place before (pair ∷ pairs) k are at none =
-    let parts : (nat_lt before pair.0 ≡ true) × (first_fall (place + 1) pair.0 pairs ≡ None) = rising (nat_lt before pair.0) (first_fall (place + 1) pair.0 pairs) place none in
+    let parts : (nat_lt before pair.0 ≡ true) × (first_fall (place + 1) pair.0 pairs ≡ None) = unbroken (nat_lt before pair.0) (first_fall (place + 1) pair.0 pairs) place none in
     ap (λ (b : Bool). cond b (first_fall (place + 1) pair.0 (pairs ++ (suc last, k) ∷ [])) (Some place)) parts.0
     ∙ falls_append last (place + 1) pair.0 pairs k are.1 are.0 parts.1
 

@@ -22,6 +22,7 @@ use Rattle.sct_view.specs.StatusText.{finding_line, lines_on, recall_line, statu
 use Rattle.sct_view.specs.Touched.{IsToldAlike, fresh_of, is_newly_contradicted, touched_by, touched_in}
 use Rattle.sct_view.proofs.TouchedLemmas.{untouched_stay}
 use Rattle.sct_view.proofs.TouchesAddUpLemmas.{touches_add_up}
+use Rattle.sct_keep.proofs.TransferLemmas.{lines_alike}
 use Rattle.sct_embed.specs.Laws.{OtherTransfersKeepTheirLines}
 use Rattle.sct_embed.specs.Questions.{changes_since, changes_text_of, transfer_line}
 use Rattle.sct_embed.specs.Showing.{IsLater, IsWatched, text_of_changes, watched_by}
@@ -120,13 +121,6 @@ watched_anew k es watch asked none = record {
 }
 
 -- ---- transfers that did not change
-
-lines_alike : (held later : MessageSet) (transfer : TransferKey) → IsToldAlike held later transfer → lines_on later transfer ≡ lines_on held transfer
-unfolding lines_on
-lines_alike held later transfer same = λ i.
-    status_line transfer (same.status i)
-    ++ flat_map (finding_line transfer) (same.findings i)
-    ++ flat_map (λ cxl. recall_line transfer cxl (same.recall cxl i)) (same.recalls i)
 
 pub others_keep : OtherTransfersKeepTheirLines
 others_keep arrivals asked transfer fewer away =

@@ -3,13 +3,13 @@ use Rattle.std.proofs.Common.{ℕ, ◌≡◌, ◌+◌, suc, ◌++◌, ◌∷◌,
 use Rattle.std.specs.List.{Contains, flat_map}
 use Rattle.sct_message.specs.declared.draft.Draft.{Draft}
 use Rattle.sct_json.specs.Writing.{written_text, has_no_line_feed}
-use Rattle.sct_json.proofs.Texts.{text_is_one_line, text_begins}
+use Rattle.sct_json.proofs.Texts.{text_is_one_line}
 use Rattle.sct_set.specs.Archive.{in_text_order, line_of, IsReadAgain}
 use Rattle.sct_set.specs.Contents.{contents_of}
 use Rattle.sct_set.proofs.TextLemmas.{archive_text-lines, contents-in_text_order, Contains-in_text_order}
 use Rattle.sct_lines.specs.Lines.{is_blank, lines_of, onto_first, numbered_from, messages_among, refusals_among}
 use Rattle.sct_engine.specs.Again.{ArchiveGivesBack}
-use Rattle.sct_lines.proofs.LineLemmas.{lines_of_none, numbered_none, messages_of_none, refusals_of_none, numbered-cons, written_line, messages_by_line, refusals_by_line, message_line, no_refusal}
+use Rattle.sct_lines.proofs.LineLemmas.{lines_of_none, numbered_none, messages_of_none, refusals_of_none, numbered-cons, written_line, messages_by_line, refusals_by_line, message_line, no_refusal, visible}
 
 -- the first line of a text that begins with bytes none of which is a line feed, and a line feed
 line_first : (line rest : List ℕ) → has_no_line_feed line ≡ true → lines_of (line ++ 10 ∷ rest) ≡ line ∷ lines_of rest
@@ -20,11 +20,6 @@ line_first (byte ∷ bytes) rest parted =
       | true ↦ λ is all. cc
       | false ↦ λ is all. rw (line_first bytes rest all) refl
     ]) refl parted
-
--- a written text is no blank line
-visible : (draft : Draft) → is_blank (written_text draft) ≡ false
-unfolding is_blank
-visible draft = let begins = text_begins draft in rw begins.1 refl
 
 -- each message of a list is what its written text is read as
 abbrev AllReadAgain : List Draft → Type 0

@@ -16,11 +16,8 @@ use Rattle.sct_exchange.specs.Ways.{AreAccepted}
 use Rattle.sct_exchange.proofs.JournalLemmas.{journal_core, journal_site}
 use Rattle.sct_exchange.proofs.WayLemmas.{exchanged_is, refused_is, site_exchanged, texts_are_deltas}
 
-none_more : (s : Contents) → set.union s (contents_of []) ≡ s
-none_more s = union-none s
-
 taking_messages : (ms : List Draft) (core : Core) → messages_of (core_taking core ms).arrivals ≡ set.union (messages_of core.arrivals) (contents_of ms)
-taking_messages [] core = sym (none_more (messages_of core.arrivals))
+taking_messages [] core = sym (union-none (messages_of core.arrivals))
 taking_messages (m ∷ ms) core =
     taking_messages ms (core_taken core m)
     ∙ ap (λ (s : Contents). set.union s (contents_of ms)) (taken_messages core m)
@@ -28,7 +25,7 @@ taking_messages (m ∷ ms) core =
 
 along_messages : (files : List File) (deltas : List (List Placed)) (before after : Core) → AreAccepted files before deltas after
     → messages_of after.arrivals ≡ set.union (messages_of before.arrivals) (contents_of (messages_within deltas))
-along_messages files [] before after is = ap (λ (c : Core). messages_of c.arrivals) is ∙ sym (none_more (messages_of before.arrivals))
+along_messages files [] before after is = ap (λ (c : Core). messages_of c.arrivals) is ∙ sym (union-none (messages_of before.arrivals))
 along_messages files (delta ∷ deltas) before after way =
     along_messages files deltas (core_joined before delta) after way.2
     ∙ ap (λ (s : Contents). set.union s (contents_of (messages_within deltas))) (joined_messages before.arrivals delta)

@@ -16,9 +16,11 @@ use Rattle.sct_delta.specs.declared.fault.DeltaFault.TheVariants as fault
 use Rattle.sct_delta.proofs.EntryLemmas.{from-numbered, from-numbered_other, log_is, same_number}
 use Rattle.sct_delta.proofs.HeldLemmas.{held_as_run, holds_from, some_there}
 use Rattle.sct_delta.proofs.JoinLemmas.{passed}
+use Rattle.sct_delta.proofs.LawLemmas.{got_longer}
 use Rattle.sct_site.specs.Cores.{Core, arrivals_joined, core_joined, entries_above, fresh_entries, is_open, logs_of, refusal_by}
 use Rattle.sct_site.proofs.ArrivalLemmas.{arrivals-joined}
 use Rattle.sct_site.proofs.HeldLemmas.{among_above, any_kept, held_number, one_of, or_else, told_all, told_never, within}
+use Rattle.sct_site.proofs.SiteLemmas.{has_itself}
 use Rattle.sct_exchange.specs.Hubs.{Run, IsHonestRun, IsHonest, arrivals_of, core_of, journal_at, text_of}
 use Rattle.sct_exchange.specs.Journals.{Begins, core_of_journal, own_log}
 use Rattle.sct_exchange.specs.Laws.{IsEarly, HubsNeverFork}
@@ -34,16 +36,11 @@ use Rattle.sct_exchange.proofs.WayLemmas.{among_map, delta_shape, exchanged_is, 
 pub its_message : (owned : ℕ → List Draft) (e : Placed) → is_held owned e ≡ true → message_at (owned e.origin) e.n ≡ Some e.message
 its_message owned e held = some_there e.message (message_at (owned e.origin) e.n) held
 
-get_more : (xs ys : List Draft) (k : ℕ) (m : Draft) → slice_get xs k ≡ Some m → slice_get (xs ++ ys) k ≡ Some m
-get_more [] ys k m is = cc
-get_more (x ∷ xs) ys zero m is = is
-get_more (x ∷ xs) ys (suc k) m is = get_more xs ys k m is
-
 message_more : (xs ys : List Draft) (n : ℕ) (m : Draft) → message_at xs n ≡ Some m → message_at (xs ++ ys) n ≡ Some m
 message_more xs ys n m is =
     elim (nat_eq n 0) as (λ b. cond b None (slice_get xs (n - 1)) ≡ Some m → cond b None (slice_get (xs ++ ys) (n - 1)) ≡ Some m) [
       | true ↦ λ e. e
-      | false ↦ λ e. get_more xs ys (n - 1) m e
+      | false ↦ λ e. got_longer xs ys (n - 1) m e
     ] is
 
 pub held_longer : (owned longer : ℕ → List Draft) → ((o : ℕ) → Begins (owned o) (longer o)) → (e : Placed) → is_held owned e ≡ true → is_held longer e ≡ true
@@ -174,13 +171,10 @@ longer_in sites run runs honest site =
 owned_here : (run : Run) (runs : List Run) → owned_in (run ∷ runs) run.site ≡ own_log run.journal
 owned_here run runs = ap (λ (b : Bool). own_log (cond b run.journal (journal_at runs run.site))) (same_number run.site)
 
-pub own_site : (number group : ℕ) → is_open number group ≡ true → has_site group number ≡ true
-own_site number group valid = grind (arith, nat_tests)
-
 pub start_of : (sites : ℕ) (run : Run) (runs : List Run) → IsHonestRun sites runs run → IsOf (owned_in (run ∷ runs)) (core_of_journal run.site sites run.journal)
 start_of sites run runs is =
     subst (λ (c : Core). IsOf (owned_in (run ∷ runs)) c) (sym (journal_core run.site sites run.journal))
-    (of_start (owned_in (run ∷ runs)) run.site sites (own_site run.site sites is.opened) (own_log run.journal) (owned_here run runs))
+    (of_start (owned_in (run ∷ runs)) run.site sites (has_itself run.site sites is.opened) (own_log run.journal) (owned_here run runs))
 
 -- the way of a run from its journal to its end
 pub way_of : (sites : ℕ) (run : Run) (runs : List Run) → IsHonestRun sites runs run → IsExchanged (files_in run.given) (core_of_journal run.site sites run.journal) (core_of sites run)

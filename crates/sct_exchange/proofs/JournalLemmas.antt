@@ -22,7 +22,7 @@ use Rattle.sct_exchange.specs.Laws.{JournalsMakeLogs, NumbersLast}
 pub begins_itself : {X : Type 0} (xs : List X) → Begins xs xs
 begins_itself xs = record { rest = []; is = sym (append-nil xs) }
 
-begins_on : {X : Type 0} (xs ys zs : List X) → Begins xs ys → Begins ys zs → Begins xs zs
+pub begins_on : {X : Type 0} (xs ys zs : List X) → Begins xs ys → Begins ys zs → Begins xs zs
 begins_on xs ys zs one two = record {
   rest = one.rest ++ two.rest;
   is = two.is ∙ ap (λ l. l ++ two.rest) one.is ∙ append_assoc xs one.rest two.rest;

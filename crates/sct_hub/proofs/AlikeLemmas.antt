@@ -17,14 +17,14 @@ use Rattle.sct_delta.proofs.JoinLemmas.{kept_is}
 use Rattle.sct_site.specs.Cores.{Core, IsSite, arrivals_taken, core_joined, core_taken, entries_above, entry_order, fresh_entries, is_above, is_open, logs_of, own_entry, refusal_by}
 use Rattle.sct_site.proofs.AboveLemmas.{entry_same, entry_total}
 use Rattle.sct_site.proofs.HeldLemmas.{any_kept, held_number, held_stands, joined_holds, kept_first, kept_passes, one_of, one_place, stands_held}
-use Rattle.sct_site.proofs.SiteLemmas.{site_joined, site_opened, site_taken}
+use Rattle.sct_site.proofs.SiteLemmas.{has_itself, site_joined, site_opened, site_taken}
 use Rattle.sct_exchange.specs.Journals.{core_of_journal, opened, own_log}
 use Rattle.sct_exchange.specs.Owned.{IsOf, IsTextOf}
 use Rattle.sct_exchange.specs.Rounds.{File, files_in}
 use Rattle.sct_exchange.specs.Sites.{cut_text, site_after}
 use Rattle.sct_exchange.specs.Ways.{AreAccepted, IsAmong, IsExchanged}
 use Rattle.sct_exchange.proofs.AlikeLemmas.{HasAll, fits_too, none_new}
-use Rattle.sct_exchange.proofs.HubLemmas.{group_along, of_accepted, of_start, own_site}
+use Rattle.sct_exchange.proofs.HubLemmas.{group_along, of_accepted, of_start}
 use Rattle.sct_exchange.proofs.JournalLemmas.{journal_core, journal_site}
 use Rattle.sct_exchange.proofs.WayLemmas.{delta_shape, exchanged_is, texts_are_deltas}
 use Rattle.sct_journal.specs.Kept.{AreLines}
@@ -148,7 +148,7 @@ above_alike count es fs alike =
 
 -- ---- a keeper's site, and the same site made anew from its journal and its deltas
 
-number_along : (files : List File) (deltas : List (List Placed)) (before after : Core) → AreAccepted files before deltas after → after.number ≡ before.number
+pub number_along : (files : List File) (deltas : List (List Placed)) (before after : Core) → AreAccepted files before deltas after → after.number ≡ before.number
 number_along files [] before after is = ap (λ (c : Core). c.number) is
 number_along files (delta ∷ deltas) before after way = number_along files deltas (core_joined before delta) after way.2
 
@@ -184,7 +184,7 @@ module _ (site sites : ℕ) (valid : is_open site sites ≡ true) (lines : List 
   own_is = ap (λ (n : ℕ). log_of n live.arrivals) (sym live_number) ∙ own_log_is site sites lines are brought
 
   of_begin : IsOf owned start
-  of_begin = subst (λ (c : Core). IsOf owned c) (sym (journal_core site sites journal)) (of_start owned site sites (own_site site sites valid) (own_log journal) own_is)
+  of_begin = subst (λ (c : Core). IsOf owned c) (sym (journal_core site sites journal)) (of_start owned site sites (has_itself site sites valid) (own_log journal) own_is)
 
   here : (delta : List Placed) → IsAmong files (Ok delta) → HasAll delta live.arrivals
   here delta among = deltas_here lines (opened site sites) (site_opened site sites valid) brought delta among

@@ -19,26 +19,9 @@ use Rattle.sct_exchange.proofs.OwnLemmas.{own_kept}
 use Rattle.sct_exchange.proofs.WayLemmas.{delta_shape}
 use Rattle.sct_requests.specs.Steps.{core_offered}
 use Rattle.sct_hub.specs.EmbeddedLaws.{DeltasAddNothing, JournalsHaveTheMessages, RepeatsAddNothing}
-use Rattle.sct_hub.proofs.OwnLogLemmas.{log_taken}
+use Rattle.sct_hub.proofs.OwnLogLemmas.{log_taken, not_in_log}
 
 -- ---- a message that is new is not in the own messages
-
-or_from : (a b : Bool) → a ≡ false → b ≡ false → (a || b) ≡ false
-or_from a b e f = rw (e, f) refl
-
-none_in_part : (t : Draft → Bool) (p : Placed → Bool) (es : List Placed) → list_any t (map (λ entry. entry.message) es) ≡ false → list_any t (map (λ entry. entry.message) (filter p es)) ≡ false
-none_in_part t p [] none = refl
-none_in_part t p (e ∷ es) none =
-    let parts = or_parts (t e.message) (list_any t (map (λ entry. entry.message) es)) none in
-    elim (p e) as (λ b. list_any t (map (λ entry. entry.message) (cond b (e ∷ filter p es) (filter p es))) ≡ false) [
-      | true ↦ or_from (t e.message) _ parts.0 (none_in_part t p es parts.1)
-      | false ↦ none_in_part t p es parts.1
-    ]
-
-not_own : (core : Core) (message : Draft) → is_repeat core message ≡ false → list_any (λ held. same_message held message) (log_of core.number core.arrivals) ≡ false
-not_own core message new =
-    none_in_part (λ held. same_message held message) (λ e. nat_eq e.origin core.number) core.arrivals
-    (sym (contains-contents_of (map (λ entry. entry.message) core.arrivals) message) ∙ new)
 
 -- ---- the journal
 
@@ -54,7 +37,7 @@ journals_have core journal line message whole read new is =
     let log : List Draft = log_of core.number core.arrivals in
     with_one journal line message (messages_stay journal line whole) read
     ∙ ap (λ (l : List Draft). with_message l message) is
-    ∙ ap (λ (b : Bool). cond b log (log ++ message ∷ [])) (not_own core message new)
+    ∙ ap (λ (b : Bool). cond b log (log ++ message ∷ [])) (not_in_log core message new)
     ∙ sym (log_taken core message)
     ∙ ap (λ (b : Bool). log_of core.number (cond b core.arrivals (core.arrivals ++ own_entry core message ∷ []))) (sym new)
 

@@ -14,14 +14,14 @@ use Rattle.sct_delta.specs.Refusals.{has_site, is_held, is_same_as, message_at}
 use Rattle.sct_delta.proofs.EntryLemmas.{same_number}
 use Rattle.sct_site.specs.Cores.{Core, IsSite, core_joined, entries_above, fresh_entries, is_open, logs_of, refusal_by}
 use Rattle.sct_site.proofs.HeldLemmas.{among_above, any_kept, held_stands, one_of}
-use Rattle.sct_site.proofs.SiteLemmas.{site_joined}
+use Rattle.sct_site.proofs.SiteLemmas.{has_itself, site_joined}
 use Rattle.sct_exchange.specs.Journals.{Begins, core_of_journal, core_taking, own_log}
 use Rattle.sct_exchange.specs.Owned.{IsOf, IsTextOf}
 use Rattle.sct_exchange.specs.Rounds.{File, files_in}
 use Rattle.sct_exchange.specs.Sites.{cut_text}
 use Rattle.sct_exchange.specs.Ways.{AreAccepted, IsAmong, IsExchanged}
-use Rattle.sct_exchange.proofs.HubLemmas.{IsTextRead, group_along, held_longer, its_message, of_accepted, of_start, only_early, own_site, text_longer}
-use Rattle.sct_exchange.proofs.JournalLemmas.{begins_itself, journal_core, journal_site}
+use Rattle.sct_exchange.proofs.HubLemmas.{IsTextRead, group_along, held_longer, its_message, of_accepted, of_start, only_early, text_longer}
+use Rattle.sct_exchange.proofs.JournalLemmas.{begins_itself, begins_on, journal_core, journal_site}
 use Rattle.sct_exchange.proofs.OwnLemmas.{by_the_journal, own_kept}
 use Rattle.sct_exchange.proofs.WayLemmas.{delta_shape, exchanged_is, texts_are_deltas}
 use Rattle.sct_embed.specs.Restoring.{core_restored, offered}
@@ -31,7 +31,8 @@ use Rattle.sct_hub.specs.Embedded.Event.{Accept, Cut, Restore, Take, Write}
 use Rattle.sct_hub.specs.Hubs.{IsCutReadBack}
 use Rattle.sct_hub.specs.EmbeddedLaws.{EmbeddedSitesNeverFork, JournalsOnlyGrow, NoNumberIsGivenTwice, OwnMessagesOnlyGrow, WrittenMessagesLast}
 use Rattle.sct_hub.proofs.EmbeddedJournalLemmas.{deltas_add_nothing}
-use Rattle.sct_hub.proofs.EmbeddedTakeLemmas.{IsGrown, begins_along, grown_taking}
+use Rattle.sct_hub.proofs.EmbeddedTakeLemmas.{IsGrown, grown_taking}
+use Rattle.sct_hub.proofs.AlikeLemmas.{number_along}
 
 -- ---- what holds at every moment
 
@@ -98,10 +99,6 @@ module _ (journal longer : ℕ → List Draft) (begins : (o : ℕ) → Begins (j
   read_longer : (text : List ℕ) → IsTextRead journal sites text → IsTextRead longer sites text
   read_longer text read = record { delta = read.delta; is = read.is; of = text_longer journal longer begins sites read.delta read.of }
 
-number_along : (files : List File) (deltas : List (List Placed)) (before after : Core) → AreAccepted files before deltas after → after.number ≡ before.number
-number_along files [] before after is = ap (λ (c : Core). c.number) is
-number_along files (delta ∷ deltas) before after way = number_along files deltas (core_joined before delta) after way.2
-
 -- ---- what the own messages of all sites have
 
 module _ (sites : ℕ) (world : World) (holds_in : Holds sites world) where
@@ -160,7 +157,7 @@ module _ (sites : ℕ) (world : World) (holds_in : Holds sites world) where
           | inl old ↦ one.known e old
           | inr own ↦ inr (own ∙ one.number)
         ];
-        written = begins_along _ _ _ one.written (subst (λ (n : ℕ). Begins (log_of n core.arrivals) (log_of n now.arrivals)) one.number grown.own);
+        written = begins_on _ _ _ one.written (subst (λ (n : ℕ). Begins (log_of n core.arrivals) (log_of n now.arrivals)) one.number grown.own);
       }
 
   one_joined : (site : ℕ) → is_open site sites ≡ true → (delta : List Placed) → IsTextOf world.journal sites delta → refusal_by (world.core site) delta ≡ None
@@ -286,7 +283,7 @@ module _ (sites : ℕ) (world : World) (holds_in : Holds sites world) where
     way = exchanged_is start (journal_site site sites journal valid) files (texts_are_deltas (offered text))
 
     start_of_log : IsOf with_log start
-    start_of_log = subst (λ (c : Core). IsOf with_log c) (sym (journal_core site sites journal)) (of_start with_log site sites (own_site site sites valid) (own_log journal) log_here)
+    start_of_log = subst (λ (c : Core). IsOf with_log c) (sym (journal_core site sites journal)) (of_start with_log site sites (has_itself site sites valid) (own_log journal) log_here)
 
     start_group : start.group ≡ sites
     start_group = ap (λ (c : Core). c.group) (journal_core site sites journal)
@@ -334,7 +331,7 @@ comes_after sites (event ∷ events) world holds may =
     let next : World = happens sites world event in
     let one : Comes sites world next = comes_by sites world holds event may.0 in
     let rest : Comes sites next (after sites next events) = comes_after sites events next one.holds may.1 in
-    record { holds = rest.holds; longer = λ site. begins_along _ _ _ (one.longer site) (rest.longer site) }
+    record { holds = rest.holds; longer = λ site. begins_on _ _ _ (one.longer site) (rest.longer site) }
 
 pub holds_of : (sites : ℕ) (world : World) → IsHub sites world → Holds sites world
 holds_of sites world hub = subst (Holds sites) (sym hub.led) (comes_after sites hub.events (at_first sites) (holds_first sites) hub.may).holds
@@ -359,7 +356,7 @@ journals_grow sites world events hub may site = (comes_after sites events world 
 pub written_last : WrittenMessagesLast
 written_last sites world events hub may site =
     let comes : Comes sites world (after sites world events) = comes_after sites events world (holds_of sites world hub) may in
-    begins_along _ _ _ (comes.longer site) (begins_owned sites (after sites world events) comes.holds site)
+    begins_on _ _ _ (comes.longer site) (begins_owned sites (after sites world events) comes.holds site)
 
 own_by : (sites : ℕ) (world : World) → Holds sites world → (event : Event) → MayHappen sites world event → LosesNone world event
     → (at : ℕ) → Begins (own_messages world at) (own_messages (happens sites world event) at)
@@ -389,7 +386,7 @@ own_after : (sites : ℕ) (events : List Event) (world : World) → Holds sites 
     → (at : ℕ) → Begins (own_messages world at) (own_messages (after sites world events) at)
 own_after sites [] world holds may none at = begins_itself (own_messages world at)
 own_after sites (event ∷ events) world holds may none at =
-    begins_along _ _ _ (own_by sites world holds event may.0 none.0 at)
+    begins_on _ _ _ (own_by sites world holds event may.0 none.0 at)
     (own_after sites events (happens sites world event) (comes_by sites world holds event may.0).holds may.1 none.1 at)
 
 pub own_grow : OwnMessagesOnlyGrow

@@ -8,14 +8,8 @@ use Rattle.sct_site.specs.Cores.{Core, IsSite, arrivals_taken, core_taken, is_re
 use Rattle.sct_site.proofs.HeldLemmas.{one_of}
 use Rattle.sct_site.proofs.SiteLemmas.{site_taken}
 use Rattle.sct_exchange.specs.Journals.{Begins, core_taking}
-use Rattle.sct_exchange.proofs.JournalLemmas.{begins_itself}
+use Rattle.sct_exchange.proofs.JournalLemmas.{begins_itself, begins_on}
 use Rattle.sct_hub.proofs.OwnLogLemmas.{log_taken}
-
-pub begins_along : {X : Type 0} (xs ys zs : List X) → Begins xs ys → Begins ys zs → Begins xs zs
-begins_along xs ys zs one two = record {
-  rest = one.rest ++ two.rest;
-  is = two.is ∙ ap (λ l. l ++ two.rest) one.is ∙ append_assoc xs one.rest two.rest;
-}
 
 -- What a site comes to by takes: its own messages grow, and it gets no entry of another site.
 pub record IsGrown (before now : Core) : Type 0 where
@@ -60,7 +54,7 @@ grown_on before mid now one two = record {
   number = two.number ∙ one.number;
   group = two.group ∙ one.group;
   site = two.site;
-  own = begins_along _ _ _ one.own (subst (λ (n : ℕ). Begins (log_of n mid.arrivals) (log_of n now.arrivals)) one.number two.own);
+  own = begins_on _ _ _ one.own (subst (λ (n : ℕ). Begins (log_of n mid.arrivals) (log_of n now.arrivals)) one.number two.own);
   others = λ e held. elim (two.others e held) as (λ c. (holds before.arrivals e ≡ true) ⊎ (e.origin ≡ before.number)) [
     | inl old ↦ one.others e old
     | inr new ↦ inr (new ∙ one.number)

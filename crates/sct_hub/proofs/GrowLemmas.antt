@@ -11,12 +11,13 @@ use Rattle.sct_message.specs.Order.{same_message}
 use Rattle.sct_message.proofs.Members.{list_any-map}
 use Rattle.sct_message.proofs.Tests.{none_kept as filter_none}
 use Rattle.sct_json.specs.Writing.{has_no_line_feed, written_text}
-use Rattle.sct_json.proofs.Texts.{text_begins, text_is_one_line}
+use Rattle.sct_json.proofs.Texts.{text_is_one_line}
 use Rattle.sct_set.specs.Archive.{IsReadAgain, line_of}
 use Rattle.sct_set.proofs.ContentsLemmas.{contains-contents_of}
 use Rattle.sct_lines.specs.LineLaws.{IsOfWholeLines}
 use Rattle.sct_lines.specs.Lines.{is_blank, lines_of, messages_among, messages_read, numbered_from}
 use Rattle.sct_lines.proofs.PartLemmas.{lines_join, messages_stay}
+use Rattle.sct_lines.proofs.LineLemmas.{visible}
 use Rattle.sct_delta.specs.Entries.{IsArrivals, Placed, entries_from, held_from, is_from, log_of, numbered}
 use Rattle.sct_delta.specs.Refusals.{message_at}
 use Rattle.sct_delta.proofs.EntryLemmas.{from-numbered, log-append, log_is, same_number}
@@ -29,14 +30,9 @@ use Rattle.sct_journal.specs.Kept.{IsLine}
 use Rattle.sct_requests.proofs.BringLemmas.{with_own}
 use Rattle.sct_embed.specs.Asking.{own_above}
 use Rattle.sct_hub.specs.Restored.{IsJournalOf, JournalsGrowWithTheirSites, lines_above}
-use Rattle.sct_hub.proofs.OwnLogLemmas.{log_taken, read_line_is}
+use Rattle.sct_hub.proofs.OwnLogLemmas.{line_whole, log_taken, not_in_log, read_line_is}
 
 -- ---- lines of messages are read as the messages
-
-line_whole : (line : List ℕ) → IsOfWholeLines (line ++ 10 ∷ [])
-line_whole [] = refl
-line_whole (byte ∷ []) = refl
-line_whole (byte ∷ next ∷ bytes) = ap (λ (l : List ℕ). byte ∷ l) (line_whole (next ∷ bytes))
 
 no_feed : (byte : ℕ) → not (byte == 10) ≡ true → byte ≢ 10
 no_feed byte other = grind (arith, nat_tests)
@@ -45,10 +41,6 @@ is_line : (bytes : List ℕ) → has_no_line_feed bytes ≡ true → IsLine byte
 is_line [] none = tt
 is_line (byte ∷ bytes) none =
     let parts = and_parts (not (byte == 10)) (has_no_line_feed bytes) none in (no_feed byte parts.0, is_line bytes parts.1)
-
-visible : (message : Draft) → is_blank (written_text message) ≡ false
-unfolding is_blank
-visible message = let begins = text_begins message in rw begins.1 refl
 
 none_read : messages_read [] ≡ []
 unfolding messages_among numbered_from lines_of
@@ -65,15 +57,6 @@ messages_again (message ∷ messages) again =
     ∙ (λ i. read_line_is (written_text message) message (is_line (written_text message) (text_is_one_line message)) (visible message) again.0 i ++ messages_again messages again.1 i)
 
 -- ---- a site that took messages
-
-not_in_log : (core : Core) (message : Draft) → is_repeat core message ≡ false → list_any (λ held. same_message held message) (log_of core.number core.arrivals) ≡ false
-not_in_log core message new =
-    false_from_ne_true (list_any (λ held. same_message held message) (log_of core.number core.arrivals)) (λ some. false≢true (
-    sym new
-    ∙ contains-contents_of (map (λ entry. entry.message) core.arrivals) message
-    ∙ list_any-map (λ held. same_message held message) (λ (e : Placed). e.message) core.arrivals
-    ∙ any_kept (is_from core.number) (λ e. same_message e.message message) core.arrivals
-    (sym (list_any-map (λ held. same_message held message) (λ (e : Placed). e.message) (entries_from core.number core.arrivals)) ∙ some)))
 
 -- The site took messages that it did not have, each once, as its next own entries.
 record Grew (core after : Core) : Type 0 where

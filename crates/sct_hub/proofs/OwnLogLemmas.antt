@@ -27,7 +27,7 @@ use Rattle.sct_requests.proofs.BringLemmas.{Joins, Takes, brings_how}
 
 -- ---- whole lines
 
-line_whole : (line : List ℕ) → IsOfWholeLines (line ++ 10 ∷ [])
+pub line_whole : (line : List ℕ) → IsOfWholeLines (line ++ 10 ∷ [])
 line_whole [] = refl
 line_whole (byte ∷ []) = refl
 line_whole (byte ∷ next ∷ bytes) = ap (λ (l : List ℕ). byte ∷ l) (line_whole (next ∷ bytes))
@@ -75,7 +75,7 @@ none_in_part t p (e ∷ es) none =
       | false ↦ none_in_part t p es parts.1
     ]
 
-not_in_log : (core : Core) (message : Draft) → is_repeat core message ≡ false → list_any (λ held. same_message held message) (log_of core.number core.arrivals) ≡ false
+pub not_in_log : (core : Core) (message : Draft) → is_repeat core message ≡ false → list_any (λ held. same_message held message) (log_of core.number core.arrivals) ≡ false
 not_in_log core message new =
     none_in_part (λ held. same_message held message) (λ e. nat_eq e.origin core.number) core.arrivals
     (sym (contains-contents_of (map (λ entry. entry.message) core.arrivals) message) ∙ new)

@@ -10,6 +10,7 @@ use Rattle.sct_delta.specs.Entries.{IsArrivals, Placed, held_from, holds, log_of
 use Rattle.sct_delta.specs.Refusals.{is_held, message_at}
 use Rattle.sct_delta.specs.declared.fault.DeltaFault.{DeltaFault}
 use Rattle.sct_delta.proofs.EntryLemmas.{not_zero, same_number}
+use Rattle.sct_delta.proofs.LawLemmas.{at_place}
 use Rattle.sct_site.specs.Cores.{Core, IsSite, entries_above, is_open}
 use Rattle.sct_site.proofs.ArrivalLemmas.{length-log}
 use Rattle.sct_site.proofs.HeldLemmas.{held_number}
@@ -48,14 +49,11 @@ begins_either (x ∷ xs) (y ∷ ys) zs one two =
       | inr second ↦ inr (record { rest = second.rest; is = λ i. head i ∷ second.is i })
     ]
 
-at_next : (ms : List Draft) (k : ℕ) → message_at ms (k + 1) ≡ slice_get ms k
-at_next ms k = (λ j. cond (not_zero (k + 1) (omega arith) j) None (slice_get ms (k + 1 - 1))) ∙ ap (slice_get ms) (omega arith)
-
 -- the log of entries each of which is its origin's message of that number is the front of the origin's log
 log_begins : (owned : ℕ → List Draft) (es : List Placed) → IsArrivals es → ((e : Placed) → holds es e ≡ true → is_held owned e ≡ true) → (o : ℕ) → Begins (log_of o es) (owned o)
 log_begins owned es order known o = begins_by (log_of o es) (owned o) (λ k m is.
     let e : Placed = record { origin = o; n = k + 1; message = m } in
-    sym (at_next (owned o) k) ∙ its_message owned e (known e (held_number es order o (k + 1) m (at_next (log_of o es) k ∙ is))))
+    sym (at_place (owned o) k) ∙ its_message owned e (known e (held_number es order o (k + 1) m (at_place (log_of o es) k ∙ is))))
 
 length_begins : (xs ys : List Draft) → Begins xs ys → length xs ≤ length ys
 length_begins xs ys begins = let size : length ys ≡ length (xs ++ begins.rest) = ap length begins.is in omega (arith, size, length-append xs begins.rest)

@@ -17,6 +17,7 @@ use Rattle.sct_site.specs.Cores.{Core, IsSite, core_joined, entries_above, fresh
 use Rattle.sct_site.proofs.ArrivalLemmas.{length-log}
 use Rattle.sct_site.proofs.HeldLemmas.{among_above, at_number, held_number, held_stands, not_0, one_place, stands_held}
 use Rattle.sct_site.proofs.MessageLemmas.{same_messages}
+use Rattle.sct_site.proofs.SiteLemmas.{has_itself}
 use Rattle.sct_exchange.specs.Journals.{core_of_journal, own_log}
 use Rattle.sct_exchange.specs.Laws.{HaveEqualVectors, HoldAlike}
 use Rattle.sct_exchange.specs.Owned.{IsOf, IsTextOf}
@@ -26,36 +27,23 @@ use Rattle.sct_exchange.specs.Sites.{refused_after, site_after}
 use Rattle.sct_exchange.specs.Ways.{AreAccepted, IsAmong, IsExchanged}
 use Rattle.sct_exchange.proofs.AlikeLemmas.{HasAll, length_within}
 use Rattle.sct_exchange.proofs.ExactlyLemmas.{refused_last, rounds_come_to_it}
-use Rattle.sct_exchange.proofs.HubLemmas.{group_along, its_message, of_accepted, of_start, own_site}
+use Rattle.sct_exchange.proofs.HubLemmas.{group_along, its_message, of_accepted, of_start}
 use Rattle.sct_exchange.proofs.JournalLemmas.{journal_core}
 use Rattle.sct_exchange.proofs.OwnLemmas.{by_the_journal}
 use Rattle.sct_exchange.proofs.WayLemmas.{delta_shape}
 use Rattle.sct_embed.specs.Restoring.{offered}
 use Rattle.sct_hub.specs.Laws.{SitesAnswerAlike}
 use Rattle.sct_hub.specs.Restored.{AreOneSite, IsCutOfAll, OneCutIsEnough, SitesAreRestored}
-use Rattle.sct_hub.proofs.AlikeLemmas.{above_alike}
+use Rattle.sct_hub.proofs.AlikeLemmas.{above_alike, number_along}
 use Rattle.sct_hub.proofs.AskLemmas.{asked_alike}
 use Rattle.sct_hub.proofs.CatchUpLemmas.{cut_fits, cut_has}
+use Rattle.sct_hub.proofs.EmbeddedEqualLemmas.{answer_alike}
 
 -- ---- sites that hold alike
 
 count_alike : (es fs : List Placed) → IsArrivals es → IsArrivals fs → HoldAlike es fs → HaveEqualVectors es fs
 count_alike es fs first second same o =
     omega (arith, length_within es fs first second (λ e held. sym (same e) ∙ held) o, length_within fs es second first (λ e held. same e ∙ held) o, length-log o es, length-log o fs)
-
-answers_alike : (one other : Core) → HoldAlike one.arrivals other.arrivals → HaveEqualVectors one.arrivals other.arrivals → SitesAnswerAlike one other
-answers_alike one other same counts = record {
-  entries = same;
-  messages = same_messages one.arrivals other.arrivals same;
-  answers = λ question watched also plain.
-      asked_alike (record { core = one; watched = watched }) (record { core = other; watched = also })
-      (same_messages one.arrivals other.arrivals same) (ap vector_text (λ i o. counts o i))
-      (λ have. ap written_delta (above_alike have one.arrivals other.arrivals same)) question plain;
-}
-
-number_along : (files : List File) (deltas : List (List Placed)) (before after : Core) → AreAccepted files before deltas after → after.number ≡ before.number
-number_along files [] before after is = ap (λ (c : Core). c.number) is
-number_along files (delta ∷ deltas) before after way = number_along files deltas (core_joined before delta) after way.2
 
 -- ---- the site that the journal and the cut make
 
@@ -104,7 +92,7 @@ module _ (core : Core) (site : IsSite core) (journal text : List ℕ) (log : own
   start_is : IsOf owned start
   start_is =
       subst (λ (c : Core). IsOf owned c) (sym (journal_core number group journal))
-      (of_start owned number group (own_site number group site.opened) (own_log journal) (sym log))
+      (of_start owned number group (has_itself number group site.opened) (own_log journal) (sym log))
 
   start_group : start.group ≡ group
   start_group = ap (λ (c : Core). c.group) (journal_core number group journal)
@@ -163,7 +151,7 @@ module _ (core : Core) (site : IsSite core) (journal text : List ℕ) (log : own
     group = sym again_group;
     entries = hold_alike;
     vectors = equal_vectors;
-    answers = answers_alike core again hold_alike equal_vectors;
+    answers = answer_alike core again hold_alike equal_vectors;
   }
 
   pub none_refused : refused_after number group journal (text ∷ []) ≡ []

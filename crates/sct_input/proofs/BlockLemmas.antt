@@ -7,20 +7,13 @@ use Rattle.sct_streams.specs.Stream.{HasReadIfTold, HasTakenIfTold}
 use Rattle.sct_streams.specs.Whole.{EndsAppending, EndsReading, HasAppended}
 use Rattle.sct_streams.specs.declared.whole.ReadFault.{ReadFault}
 use Rattle.sct_streams.specs.declared.whole.ReadFault.TheVariants.{TooLong, Failed, Memory}
+use Rattle.sct_streams.proofs.StreamLemmas.{end_on, read_on}
 use Rattle.sct_lines.specs.Blocks.{IsReadOf}
 use Rattle.sct_lines.specs.declared.intake.Intake.{Intake}
 use Rattle.sct_lines.specs.LineLaws.{with_last_feed, IsOfWholeLines}
 use Rattle.sct_lines.specs.Lines.{lines_of}
 use Rattle.sct_lines.proofs.PartLemmas.{ended_whole, few_lines, lines_join}
 use Rattle.sct_input.specs.Inputs.{IsIntake}
-
--- bytes are read, and then more of them
-read_on : (before between after : Option (List ℕ)) (some more : List ℕ) → HasReadIfTold before between some → HasReadIfTold between after more
-    → HasReadIfTold before after (some ++ more)
-read_on None between after some more first second = tt
-read_on (Some left) between after some more first second =
-    let then : HasReadIfTold (Some first.0) after more = subst (λ b. HasReadIfTold b after more) first.1.1 second in
-    (then.0, (first.1.0 ∙ ap (λ r. some ++ r) then.1.0 ∙ sym (append_assoc some more then.0), then.1.1))
 
 -- bytes that are read are taken
 taken_if_read : (before after : Option (List ℕ)) (bytes : List ℕ) → HasReadIfTold before after bytes → HasTakenIfTold before after (length bytes)
@@ -40,12 +33,6 @@ taken_on (Some left) between after bytes n first second =
       omega (arith, then.0, ap length first.1.0, length-append bytes first.0),
       then.1 ∙ ap Some (sym (sym (drop-drop n (length bytes) left) ∙ ap (drop n) rest)),
     )
-
--- after the end nothing is left, of what was left before
-end_of : (before between after : Option (List ℕ)) (bytes : List ℕ) → HasReadIfTold before between bytes → IfSome between (λ _. after ≡ Some [])
-    → IfSome before (λ _. after ≡ Some [])
-end_of None between after bytes first end = tt
-end_of (Some left) between after bytes first end = subst (λ b. IfSome b (λ _. after ≡ Some [])) first.1.1 end
 
 whole_of : (before after : Option (List ℕ)) (bytes : List ℕ) → HasReadIfTold before after bytes → IfSome before (λ _. after ≡ Some [])
     → IfSome before (λ left. (left ≡ bytes) × (after ≡ Some []))
@@ -131,6 +118,6 @@ pub all_read : (total sum limit : ℕ) (before now after : Option (List ℕ)) (r
 all_read total sum limit before now after rest last text all intake so_far now_taken within end is read = record {
   input = text ++ last;
   within = omega (arith, within, now_taken.count, length-append text last);
-  whole = whole_of before after (text ++ last) now_taken.taken (end_of before now after (text ++ rest) so_far.taken end);
+  whole = whole_of before after (text ++ last) now_taken.taken (end_on before now after (text ++ rest) so_far.taken end);
   read = subst (λ t. IsReadOf t intake) is read;
 }

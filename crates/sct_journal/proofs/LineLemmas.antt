@@ -70,7 +70,7 @@ kept_nothing = refl
 
 -- ---- lines that are written
 
-ended_line : (line rest : List ℕ) → IsLine line → ended_lines (line ++ 10 ∷ rest) ≡ line ∷ ended_lines rest
+pub ended_line : (line rest : List ℕ) → IsLine line → ended_lines (line ++ 10 ∷ rest) ≡ line ∷ ended_lines rest
 ended_line [] rest is = refl
 ended_line (byte ∷ line) rest is = let no : (byte == 10) ≡ false = let differs : byte ≢ 10 = is.0 in grind (arith, nat_tests) in rw (no, ended_line line rest is.1) refl
 

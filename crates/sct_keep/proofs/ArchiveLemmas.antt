@@ -19,7 +19,8 @@ use Rattle.sct_set.specs.declared.added.Added.TheVariants as added
 use Rattle.sct_set.proofs.TextLemmas.{line_order_same}
 use Rattle.sct_view.proofs.EvaluationLemmas.{any_union}
 use Rattle.std.proofs.Common.{refl, sym}
-use Rattle.sct_keep.proofs.Members.{same_members, held_from, in_items, of_either, of_first, of_second, has_it}
+use Rattle.sct_keep.proofs.Members.{same_members, of_either, of_first, of_second, has_it}
+use Rattle.sct_case.proofs.Stays.{held_from, in_items}
 use Rattle.sct_keep.specs.PartsLaws.{ArchiveIsThatOfTheParts}
 
 pub told_held : (s : MessageSet) (m : Draft) → Contains (in_text_order s) m → set.contains s m ≡ true

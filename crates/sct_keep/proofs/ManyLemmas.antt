@@ -28,7 +28,8 @@ use Rattle.sct_message.proofs.SameValues.{identity_is}
 use Rattle.sct_set.specs.LineOrder.{line_order_total}
 use Rattle.sct_set.proofs.TextLemmas.{line_order_same}
 use Rattle.sct_keep.specs.Parts.{AreApart, ShareNothing}
-use Rattle.sct_keep.proofs.Members.{same_members, held_from, in_items, of_either, of_first, of_second, key_held, key_there, from_either, to_either, has_it, held_passing}
+use Rattle.sct_keep.proofs.Members.{same_members, of_either, of_first, of_second, key_held, key_there, from_either, to_either, has_it, held_passing}
+use Rattle.sct_case.proofs.Stays.{held_from, in_items}
 use Rattle.sct_keep.proofs.ApartLemmas.{by_messages, from_both}
 use Rattle.sct_keep.proofs.TransferLemmas.{of_first_part, of_second_part}
 use Rattle.sct_keep.specs.PartsLaws.{IsOfThePart, ManyPartsAnswerTogether}

@@ -22,6 +22,7 @@ use Rattle.sct_message.proofs.AscendingLemmas.{ascending_rises, ascending-same, 
 use Rattle.sct_message.proofs.Members.{tie_is}
 use Rattle.sct_message.proofs.SameValues.{identity_itself, transfer_is}
 use Rattle.sct_case.proofs.Membership.{any_tie, ascending_in, flat_mapped_in, in_ascending, in_flat_map}
+use Rattle.sct_case.proofs.Stays.{held_from, in_items}
 use Rattle.sct_set.specs.Archive.{has_identity}
 use Rattle.sct_set.proofs.LawLemmas.{commutative}
 use Rattle.sct_view.proofs.SetKeys.{on_is}
@@ -36,12 +37,6 @@ same_members o same ks js to from =
     both_ways _ _
     (λ e. any_tie o same js q (to q (Contains-from_any (tie_is o same) q ks e)))
     (λ e. any_tie o same ks q (from q (Contains-from_any (tie_is o same) q js e))))
-
-pub held_from : (s : MessageSet) (m : Draft) → Contains (set.items s) m → set.contains s m ≡ true
-held_from s m h = contains-items s m ∙ any_tie message_total message_same (set.items s) m h
-
-pub in_items : (s : MessageSet) (m : Draft) → set.contains s m ≡ true → Contains (set.items s) m
-in_items s m h = Contains-from_any (tie_is message_total message_same) m (set.items s) (sym (contains-items s m) ∙ h)
 
 -- a message of the set that passes a test
 pub held_passing : (s : MessageSet) (p : Draft → Bool) → list_any p (set.items s) ≡ true → (m : Draft) × (set.contains s m ≡ true) × (p m ≡ true)

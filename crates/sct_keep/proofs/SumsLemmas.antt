@@ -27,6 +27,9 @@ use Rattle.sct_view.proofs.ChangeLemmas.{nothing_kept}
 use Rattle.sct_view.proofs.KeyLemmas.{same_key_is}
 use Rattle.sct_view.proofs.SumLemmas.{sum_both, sum_kept}
 use Rattle.sct_view.proofs.TotalsLemmas.{IsNumber, by_numbers, totals_same}
+use Rattle.sct_view.proofs.ShareLemmas.{plus_nothing}
+use Rattle.sct_view.proofs.CommitLemmas.{no_share}
+use Rattle.sct_view.proofs.ListedLemmas.{banks_rise}
 use Rattle.sct_keep.specs.Parts.{ShareNothing, has_key}
 use Rattle.sct_keep.proofs.Members.{same_members, key_there, key_away, from_either}
 use Rattle.sct_keep.proofs.ApartLemmas.{by_messages, of_one}
@@ -36,21 +39,10 @@ use Rattle.sct_keep.specs.Parts.{banks_of_both}
 
 -- ---- sums with nothing
 
-plus_nothing : (t : Totals) → plus t nothing ≡ t
-plus_nothing t = totals_same (plus t nothing) t (omega arith) (omega arith) (omega arith) (omega arith) (omega arith) (omega arith) (omega arith) (omega arith) (omega arith) (omega arith)
-
 nothing_plus : (t : Totals) → plus nothing t ≡ t
 nothing_plus t = totals_same (plus nothing t) t (omega arith) (omega arith) (omega arith) (omega arith) (omega arith) (omega arith) (omega arith) (omega arith) (omega arith) (omega arith)
 
 -- ---- transfers without messages
-
-nothing_either : (b : Bool) → cond b nothing nothing ≡ nothing
-nothing_either true = refl
-nothing_either false = refl
-
-no_share : (bank : List ℕ) (t : TransferKey) → share_in bank t no_messages ≡ nothing
-unfolding share
-no_share bank t = ap (λ (x : Totals). plus x (cond false nothing nothing)) (nothing_either (is_originator bank t))
 
 -- a transfer that no message of the set is on has no share
 pub elsewhere : (s : MessageSet) (bank : List ℕ) (t : TransferKey) → has_key s t ≡ false → share_of s bank t ≡ nothing
@@ -126,11 +118,6 @@ second_nothing x y e =
     (omega (arith, zero_of (λ t. t.rejected))) (omega (arith, zero_of (λ t. t.waiting))) (omega (arith, zero_of (λ t. t.missing)))
     (omega (arith, zero_of (λ t. t.contradicted))) (omega (arith, zero_of (λ t. t.received))) (omega (arith, zero_of (λ t. t.received_cents)))
     (omega (arith, zero_of (λ t. t.returned_out)))
-
--- the banks told ascend
-banks_rise : (s : MessageSet) → IsStrictlySortedBy text_order (banks_of s)
-unfolding banks_of
-banks_rise s = IsStrictlySortedBy-filter text_order (has_totals_told s) (candidates s) (ascending_rises nat_list_cmp_total texts_same _)
 
 -- of two totals that do not come to nothing one is not nothing
 one_has_some : (x y : Totals) → plus x y ≢ nothing → (x ≢ nothing) ⊎ (y ≢ nothing)

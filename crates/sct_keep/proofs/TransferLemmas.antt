@@ -26,7 +26,8 @@ use Rattle.sct_view.proofs.EvaluationLemmas.{contradicted_in_union}
 use Rattle.sct_view.proofs.TouchedLemmas.{IsUntouched, same_case, untouched_stay}
 use Rattle.sct_keep.specs.PartsLaws.{IsOfThePart, LinesAreThoseOfTheirPart, TransfersOfBanksAreThoseOfTheParts}
 use Rattle.sct_keep.specs.Parts.{ShareNothing, has_key, keys_of_both, lines_in_part}
-use Rattle.sct_keep.proofs.Members.{same_members, held_from, held_key, among, key_there, key_away, from_either, to_either, keys_of_union}
+use Rattle.sct_keep.proofs.Members.{same_members, held_key, among, key_there, key_away, from_either, to_either, keys_of_union}
+use Rattle.sct_case.proofs.Stays.{held_from}
 use Rattle.sct_keep.proofs.ApartLemmas.{by_messages, swapped, of_one, not_contradicted}
 
 never : (x : Bool) → ((x || false) && not x) ≡ false
@@ -34,7 +35,7 @@ never true = refl
 never false = refl
 
 -- answers that are alike have the same lines
-lines_alike : (s later : MessageSet) (t : TransferKey) → IsToldAlike s later t → lines_on later t ≡ lines_on s t
+pub lines_alike : (s later : MessageSet) (t : TransferKey) → IsToldAlike s later t → lines_on later t ≡ lines_on s t
 unfolding lines_on
 lines_alike s later t same = λ i.
     status_line t (same.status i)

@@ -12,6 +12,8 @@ use Rattle.sct_message.specs.declared.draft.Draft.{Draft}
 use Rattle.sct_message.specs.Sets.{messages_in}
 use Rattle.sct_json.specs.declared.faults.JsonFault.{JsonFault}
 use Rattle.sct_json.specs.Reading.{message_in}
+use Rattle.sct_json.specs.Writing.{written_text}
+use Rattle.sct_json.proofs.Texts.{text_begins}
 use Rattle.sct_lines.specs.Lines.{is_blank, json_fault_text, lines_of, numbered_from, messages_among, refusals_among, told_after, told_text_of, refusal_line}
 use Rattle.sct_lines.specs.Refused.{reporting_line}
 
@@ -255,3 +257,8 @@ next_count found by before after all counted was lines line rest text same first
     let next : counted + lines + 1 + 1 ≡ counted + (lines + 1) + 1 = omega arith in
     subst (λ n. after + length (found (lines_left n rest)) ≡ all) next
     (count_step found by before after all (counted + lines + 1) line rest text first whole (now ∙ ap (λ n. before + length (found (numbered_from n (line ∷ [])))) here))
+
+-- the line of a message has more than white space
+pub visible : (message : Draft) → is_blank (written_text message) ≡ false
+unfolding is_blank
+visible message = let begins = text_begins message in rw begins.1 refl

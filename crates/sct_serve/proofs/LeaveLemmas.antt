@@ -12,7 +12,7 @@ use Rattle.sct_requests.proofs.StepLemmas.{brought_join}
 use Rattle.sct_serve.specs.Replies.{replies_to, watched_site_after}
 use Rattle.sct_serve.specs.Serving.{Leaves, Replied}
 use Rattle.sct_serve.proofs.ReplyLemmas.{replies_join, watched_site_core, watched_site_join}
-use Rattle.sct_serve.proofs.StreamLemmas.{appends_nothing, appends_on}
+use Rattle.sct_streams.proofs.StreamLemmas.{appends_nothing, appends_on}
 
 -- ---- one round
 

@@ -4,4 +4,3 @@ pub mod LifeLemmas
 pub mod PieceLemmas
 pub mod QuestionLemmas
 pub mod ReplyLemmas
-pub mod StreamLemmas

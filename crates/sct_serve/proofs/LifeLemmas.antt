@@ -10,7 +10,7 @@ use Rattle.sct_serve.specs.Lives.{LifeLeaves, output_of, ready_line, watched_sit
 use Rattle.sct_serve.specs.Replies.{replies_to}
 use Rattle.sct_serve.specs.Serving.{LeavesOf}
 use Rattle.sct_serve.proofs.LeaveLemmas.{leaves_none}
-use Rattle.sct_serve.proofs.StreamLemmas.{appends_nothing, appends_on, read_nothing}
+use Rattle.sct_streams.proofs.StreamLemmas.{appends_nothing, appends_on, read_nothing}
 
 pub life_none : (s : WatchedSite) (before : List (List ℕ)) (unread held : Option (List ℕ)) (c : List ℕ) → recorded c ≡ before → LifeLeaves s before unread unread held held c
 life_none s before unread held c same = record {

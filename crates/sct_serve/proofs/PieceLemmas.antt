@@ -7,7 +7,7 @@ use Rattle.std.proofs.lemmas.Bool.Decides.{nat_tests}
 use Rattle.std.proofs.lemmas.Bool.{cases_eq}
 use Rattle.sct_streams.specs.Stream.{AppendsIfTold, HasReadIfTold}
 use Rattle.sct_journal.specs.Kept.{AreLines, IsLine, ended_lines, ended_lines_from_byte, recorded}
-use Rattle.sct_journal.proofs.LineLemmas.{is_feed, no_feed}
+use Rattle.sct_journal.proofs.LineLemmas.{ended_line, is_feed, lines_join, no_feed}
 use Rattle.sct_requests.specs.WatchedSites.{WatchedSite}
 use Rattle.sct_requests.specs.Steps.{is_question_line}
 use Rattle.sct_serve.specs.Replies.{replies_to}
@@ -15,13 +15,9 @@ use Rattle.sct_serve.specs.Serving.{EndsTaking, HasNoQuestion, HasReadTooLong, H
 use Rattle.sct_serve.specs.declared.fault.ServeFault.{ServeFault}
 use Rattle.sct_serve.specs.declared.fault.ServeFault.TheVariants as fault
 use Rattle.sct_serve.proofs.LeaveLemmas.{leaves_after, leaves_none, leaves_of, replied_none, replied_of, replied_on}
-use Rattle.sct_serve.proofs.StreamLemmas.{read_all, read_nothing, read_on}
+use Rattle.sct_streams.proofs.StreamLemmas.{read_all, read_nothing, read_on}
 
 -- ---- lines and bytes
-
-ended_line : (line rest : List ℕ) → IsLine line → ended_lines (line ++ 10 ∷ rest) ≡ line ∷ ended_lines rest
-ended_line [] rest is = refl
-ended_line (byte ∷ line) rest is = let no : (byte == 10) ≡ false = let differs : byte ≢ 10 = is.0 in grind (arith, nat_tests) in rw (no, ended_line line rest is.1) refl
 
 -- lines as their bytes
 abbrev pub joined : List (List ℕ) → List ℕ
@@ -38,10 +34,6 @@ ended_joined (line ∷ lines) rest are =
 joined_join : (xs ys : List (List ℕ)) → joined (xs ++ ys) ≡ joined xs ++ joined ys
 joined_join [] ys = refl
 joined_join (x ∷ xs) ys = ap (λ (l : List ℕ). (x ++ 10 ∷ []) ++ l) (joined_join xs ys) ∙ sym (append_assoc (x ++ 10 ∷ []) (joined xs) (joined ys))
-
-are_join : (xs ys : List (List ℕ)) → AreLines xs → AreLines ys → AreLines (xs ++ ys)
-are_join [] ys first second = second
-are_join (x ∷ xs) ys first second = (first.0, are_join xs ys first.1 second)
 
 -- ---- a text of whole lines, and what comes behind it
 
@@ -152,7 +144,7 @@ no_question_join (x ∷ xs) ys first second = (first.0, no_question_join xs ys f
 pub front_more : (text rest line after : List ℕ) → InFront text rest → rest ≡ line ++ 10 ∷ after → IsLine line → is_question_line line ≡ false → InFront text after
 front_more text rest line after front is one quiet = record {
   lines = front.lines ++ line ∷ [];
-  are = are_join front.lines (line ∷ []) front.are (one, tt);
+  are = lines_join front.lines (line ∷ []) front.are (one, tt);
   none = no_question_join front.lines (line ∷ []) front.none (quiet, tt);
   bytes =
       front.bytes

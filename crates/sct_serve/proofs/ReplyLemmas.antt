@@ -3,7 +3,7 @@ use Rattle.std.proofs.Common.{◌≡◌, ◌∙◌, refl, ap, sym, ℕ, Bool, tr
 use Rattle.std.specs.Prelude.{flat_map, Option, Ok, codes, length}
 use Rattle.std.specs.Fmt.{decimal}
 use Rattle.sct_streams.specs.Stream.{AppendsIfTold, AppendsPrefixIfTold}
-use Rattle.sct_serve.proofs.StreamLemmas.{appends_on, prefix_front, prefix_on}
+use Rattle.sct_streams.proofs.StreamLemmas.{appends_on, prefix_front, prefix_on}
 use Rattle.sct_site.specs.Cores.{Core}
 use Rattle.sct_requests.specs.Questions.{answer_asked, watched_after, watched_site_given}
 use Rattle.sct_requests.specs.WatchedSites.{WatchedSite}

@@ -18,7 +18,7 @@ use sqlite_disk::Disk;
 use std::alloc::Global;
 
 // Reads some bytes.
-#[tactic(auto, using(crate::proofs::StreamLemmas::read_gives, crate::proofs::StreamLemmas::read_end, crate::proofs::StreamLemmas::read_failed))]
+#[tactic(auto, using(sct_streams::proofs::StreamLemmas::read_gives, sct_streams::proofs::StreamLemmas::read_end, sct_streams::proofs::StreamLemmas::read_failed))]
 fn read_piece<R: Source>(source: &mut R, piece: &mut [u8]) -> Result<usize, ServeFault>
     requires { 0 < length piece.old }
     ensures fits { IfOk result (λ n. n ≤ length piece.new) }

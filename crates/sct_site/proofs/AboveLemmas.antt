@@ -64,7 +64,7 @@ any_of_origin q es =
 
 -- ---- the entries above a vector
 
-agree_above : (count : ℕ → ℕ) (o n : ℕ) (ms : List Draft) → AllByRecursion (λ e. is_above count e ≡ nat_lt (count o) e.n) (numbered o n ms)
+pub agree_above : (count : ℕ → ℕ) (o n : ℕ) (ms : List Draft) → AllByRecursion (λ e. is_above count e ≡ nat_lt (count o) e.n) (numbered o n ms)
 agree_above count o n [] = tt
 agree_above count o n (m ∷ ms) = (refl, agree_above count o (n + 1) ms)
 

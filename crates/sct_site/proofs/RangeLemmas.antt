@@ -2,7 +2,7 @@
 use Rattle.std.proofs.Common.{◌≡◌, ◌∙◌, refl, ap, sym, inl, inr, ℕ, ◌+◌, ◌-◌, ◌≤◌, ◌<◌, Bool, true, false, cond, List, [], ◌∷◌, ◌++◌, filter, length, append_assoc, drop, take, get_or, Option, Some, None, max, min, arith, nat_lt}
 use Rattle.std.specs.List.{slice_get, AllByRecursion}
 use Rattle.std.proofs.Math.Nat.{le-min, max-eq_left, max-eq_right, min-le_left, min-le_right}
-use Rattle.std.proofs.lemmas.Bool.{lt-ltb}
+use Rattle.std.proofs.lemmas.Bool.{lt-ltb, ltb-true}
 use Rattle.std.proofs.lemmas.Bool.Decides.{nat_tests}
 use Rattle.std.proofs.lemmas.Option.{slice_get_cases, slice_get_within, get_or_from_slice_get}
 use Rattle.std.proofs.lemmas.List.{append-nil, drop-drop, drop_all, get_or_default, get_or-take, length-append, length-drop, length-take, length-take-le, take-append-le, take_more}
@@ -15,11 +15,13 @@ use Rattle.sct_delta.specs.Entries.{Placed, is_from, entries_from, log_of, numbe
 use Rattle.sct_delta.specs.Refusals.{message_at}
 use Rattle.sct_delta.specs.Sites.{is_site}
 use Rattle.sct_delta.proofs.EntryLemmas.{length-numbered, not_zero, numbered-step, run_is}
-use Rattle.sct_delta.proofs.JoinLemmas.{above_count}
+use Rattle.sct_delta.proofs.JoinLemmas.{above_count, all_above}
 use Rattle.sct_delta.proofs.TestLemmas.{all_kept, filter_agree, filter_comm}
+use Rattle.sct_delta.proofs.LawLemmas.{at_place}
 use Rattle.sct_site.specs.Cores.{is_above}
 use Rattle.sct_site.specs.Ranges.{in_range, in_ranges, size_of, ReachEnds}
 use Rattle.sct_site.specs.declared.ranges.LogRange.{LogRange}
+use Rattle.sct_site.proofs.AboveLemmas.{agree_above}
 
 -- ---- how many entries there are
 
@@ -61,18 +63,9 @@ module _ (old new : ℕ → List Draft) (more : ℕ → List Draft) (grown : (o 
 
 -- ---- what is above a count
 
-agree_above : (count : ℕ → ℕ) (o n : ℕ) (ms : List Draft) → AllByRecursion (λ e. is_above count e ≡ nat_lt (count o) e.n) (numbered o n ms)
-agree_above count o n [] = tt
-agree_above count o n (m ∷ ms) = (refl, agree_above count o (n + 1) ms)
-
 -- of one origin, what is above a count of each
 above_run : (count : ℕ → ℕ) (o n : ℕ) (ms : List Draft) → filter (is_above count) (numbered o n ms) ≡ filter (λ e. nat_lt (count o) e.n) (numbered o n ms)
 above_run count o n ms = filter_agree (is_above count) (λ e. nat_lt (count o) e.n) (numbered o n ms) (agree_above count o n ms)
-
--- what is numbered from above a count on is above it
-all_above : (o h n : ℕ) (ms : List Draft) → h < n → filter (λ e. nat_lt h e.n) (numbered o n ms) ≡ numbered o n ms
-all_above o h n [] above = refl
-all_above o h n (m ∷ ms) above = rw (lt-ltb h n above) (ap (λ (l : List Placed). record { origin = o; n = n; message = m } ∷ l) (all_above o h (n + 1) ms (omega arith)))
 
 further : (a h : ℕ) → nat_lt a h ≡ false → h < a + 1
 further a h e = grind (arith, nat_tests)
@@ -102,9 +95,6 @@ above_log o a h log =
           ∙ sym (all_above o h (a + 1) (drop a log) (further a h t))
     ] refl
 
-past : (h first : ℕ) → nat_lt h first ≡ true → h < first
-past h first t = grind (arith, nat_tests)
-
 reached : (h first : ℕ) → nat_lt h first ≡ false → first ≤ h + 1
 reached h first t = grind (arith, nat_tests)
 
@@ -113,7 +103,7 @@ above_first count o first ms ds from_1 is =
     let kept : entries_from o (filter (is_above count) ds) ≡ filter (λ e. nat_lt (count o) e.n) (numbered o first ms)
     = filter_comm (is_from o) (is_above count) ds ∙ ap (filter (is_above count)) is ∙ above_run count o first ms in
     elim (nat_lt (count o) first) as (λ b. nat_lt (count o) first ≡ b → HasNoHole o (filter (is_above count) ds)) [
-      | true ↦ λ t. run_is o first ms (filter (is_above count) ds) from_1 (kept ∙ all_above o (count o) first ms (past (count o) first t))
+      | true ↦ λ t. run_is o first ms (filter (is_above count) ds) from_1 (kept ∙ all_above o (count o) first ms (ltb-true (count o) first t))
       | false ↦ λ t. run_is o (count o + 1) (drop (count o + 1 - first) ms) (filter (is_above count) ds) (omega arith) (kept ∙ above_count o (count o) first ms (reached (count o) first t))
     ] refl
 
@@ -127,12 +117,6 @@ above_of_delta count ds shape = record {
 
 -- ---- ranges that are read
 
-at_next : (log : List Draft) (n : ℕ) → message_at log (n + 1) ≡ slice_get log n
-at_next log n =
-    let above : 1 ≤ n + 1 = omega arith in
-    let place : n + 1 - 1 ≡ n = omega arith in
-    ap (λ (b : Bool). cond b None (slice_get log (n + 1 - 1))) (not_zero (n + 1) above) ∙ ap (slice_get log) place
-
 none_is_some : (m : Draft) → ◌≡◌ {A = Option Draft} None (Some m) → ⊥
 none_is_some m is = cc
 
@@ -140,7 +124,7 @@ none_is_some m is = cc
 pub range_step : (o n upto : ℕ) (log : List Draft) (m : Draft) → n < upto → message_at log (n + 1) ≡ Some m
     → numbered o (n + 1) (drop n (take upto log)) ≡ record { origin = o; n = n + 1; message = m } ∷ numbered o (n + 1 + 1) (drop (n + 1) (take upto log))
 range_step o n upto log m below is =
-    let here : slice_get log n ≡ Some m = sym (at_next log n) ∙ is in
+    let here : slice_get log n ≡ Some m = sym (at_place log n) ∙ is in
     let inside : n < length log = slice_get_within log n m here in
     let size : length (take upto log) ≡ min upto (length log) = length-take upto log in
     let least : n + 1 ≤ min upto (length log) = le-min (omega (arith, below)) (omega (arith, inside)) in
@@ -153,7 +137,7 @@ pub range_ends : (o n upto : ℕ) (log : List Draft) → message_at log (n + 1) 
 range_ends o n upto log none =
     let size : length (take upto log) ≡ min upto (length log) = length-take upto log in
     elim ((slice_get_cases log n).1) as (λ c. numbered o (n + 1) (drop n (take upto log)) ≡ []) [
-      | inl found ↦ absurd (none_is_some found.0 (sym none ∙ at_next log n ∙ found.2))
+      | inl found ↦ absurd (none_is_some found.0 (sym none ∙ at_place log n ∙ found.2))
       | inr beyond ↦
           let end : length log ≤ n = beyond.0 in
           let least : min upto (length log) ≤ length log = min-le_right upto (length log) in

@@ -44,7 +44,7 @@ site_is core number group logs es archive view kept of_group =
 pub site_opened : IsSiteWhenOpened
 site_opened number group valid = record { opened = valid; order = λ o. refl; inside = λ e held. absurd (false≢true held) }
 
-has_itself : (number group : ℕ) → is_open number group ≡ true → has_site group number ≡ true
+pub has_itself : (number group : ℕ) → is_open number group ≡ true → has_site group number ≡ true
 has_itself number group valid = grind (arith, nat_tests)
 
 pub site_taken : IsSiteAfterTakes

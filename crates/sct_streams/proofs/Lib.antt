@@ -1,3 +1,4 @@
 -- The lemmas behind the streams of bytes.
 mod Adapters
 mod Fronts
+pub mod StreamLemmas

@@ -18,10 +18,7 @@ use Rattle.sct_view.specs.Filed.{IsFiled}
 use Rattle.sct_view.specs.Kept.{ListsAll, case_of, same_key}
 use Rattle.sct_view.proofs.ChangeLemmas.{nothing_on}
 use Rattle.sct_view.proofs.RebuildLemmas.{filed-contents}
-
-none_is : {X : Type 0} (o : Option X) → is_some o ≡ false → o ≡ None
-none_is None e = refl
-none_is (Some x) e = absurd (false≢true (sym e))
+use Rattle.sct_view.proofs.TableLemmas.{none_is}
 
 -- no transfer that the index does not have has messages
 pub filed_keys : {S : Type 0} (s : MessageSet) (index : IndexMap TransferKey (List (Arc Draft Global)) S) → IsFiled s index

@@ -107,7 +107,7 @@ sorted_apart ts sorted apart moved rises =
 something_at : (o : Option Totals) → option_map_or is_something o false ≡ is_something (totals_or_none o)
 something_at o = grind arith
 
-banks_rise : (s : MessageSet) → IsStrictlySortedBy text_order (banks_of s)
+pub banks_rise : (s : MessageSet) → IsStrictlySortedBy text_order (banks_of s)
 unfolding banks_of
 banks_rise s = IsStrictlySortedBy-filter text_order (λ bank. not (is_nothing (totals_of s bank))) _ (ascending_rises nat_list_cmp_total texts_same _)
 

@@ -25,6 +25,7 @@ use Rattle.sct_message.specs.declared.draft.Draft.{Draft}
 use Rattle.sct_message.specs.declared.keys.TransferKey.{TransferKey}
 use Rattle.sct_message.proofs.AscendingLemmas.{any_ascending, ascending-filter, ascending-same, ascending-sorted, ascending_rises}
 use Rattle.sct_message.proofs.SameValues.{text_is, transfer_is}
+use Rattle.sct_message.proofs.Tests.{and_comm}
 use Rattle.sct_view.specs.Filed.{IsFiled}
 use Rattle.sct_view.specs.Kept.{Kept, case_of, same_key, share_in, totals_or_none, IsInRange, IsSmall, IsUpTo}
 use Rattle.sct_view.specs.Sums.{most_of, AreSharesOf}
@@ -255,12 +256,6 @@ totals_ascending : (f : TransferKey → Totals) (ts : List TransferKey) → AreA
 totals_ascending f ts apart =
     by_numbers _ _ (λ n is. is.over f (ascending transfer_order ts) ∙ sum_ascending (λ t. n (f t)) ts apart ∙ sym (is.over f ts))
 
-swapped : (a b : Bool) → (a && b) ≡ (b && a)
-swapped true true = refl
-swapped true false = refl
-swapped false true = refl
-swapped false false = refl
-
 -- totals over lists that both have all transfers with a share are the same
 same_over : (f : TransferKey → Totals) (ts us : List TransferKey) → ((k : TransferKey) → list_any (same_transfer k) ts ≡ false → f k ≡ nothing)
     → ((k : TransferKey) → list_any (same_transfer k) us ≡ false → f k ≡ nothing)
@@ -273,7 +268,7 @@ same_over f ts us none_t none_u =
     (sym (ascending-filter transfer_total transfers_same p ts)
     ∙ ascending-same transfer_total transfers_same (filter p ts) (filter q us) (λ k.
     any-filter_same (same_transfer k) p (p k) (λ j e. ap p (sym (transfer_is k j e))) ts
-    ∙ swapped (p k) (q k)
+    ∙ and_comm (p k) (q k)
     ∙ sym (any-filter_same (same_transfer k) q (q k) (λ j e. ap q (sym (transfer_is k j e))) us))
     ∙ ascending-filter transfer_total transfers_same q us)
     ∙ totals_picked f q none_t (ascending transfer_order us)

@@ -4,6 +4,7 @@ use Rattle.std.specs.Prelude.{Option, None, Some, Result, Ok, Err, IfErr, IfOk, 
 use Rattle.std.specs.List.{slice_get}
 use Rattle.std.proofs.lemmas.Bool.{cases_lt, false≢true}
 use Rattle.std.proofs.lemmas.Option.{same_Some, slice_get_within}
+use Rattle.sct_delta.proofs.LawLemmas.{got_longer}
 use Rattle.sct_workers.specs.declared.fault.WorkFault.{WorkFault}
 use Rattle.sct_workers.specs.declared.fault.SiteFault.{SiteFault}
 use Rattle.sct_workers.specs.declared.filled.Filled.{Filled}
@@ -42,19 +43,13 @@ before_both reported first second (Err e) ok least comes = (later_than reported 
 
 -- ---- one site more
 
-get_before : {X : Type 0} (xs ys : List X) (at : ℕ) (x : X) → slice_get xs at ≡ Some x → slice_get (xs ++ ys) at ≡ Some x
-get_before [] ys zero x is = absurd (omega (arith, slice_get_within [] zero x is))
-get_before [] ys (suc at) x is = absurd (omega (arith, slice_get_within [] (suc at) x is))
-get_before (y ∷ xs) ys zero x is = is
-get_before (y ∷ xs) ys (suc at) x is = get_before xs ys at x is
-
 -- the next site did not fail
 pub reports_ok : (before : List (Result Filled SiteFault)) (so_far : Option SiteFault) (one : Result Filled SiteFault) → IsOk one
     → Reports before so_far → Reports (before ++ one ∷ []) so_far
 reports_ok before None one ok none = each_pushed (λ place answer. IsOk answer) before (before ++ one ∷ []) one refl none ok
 reports_ok before (Some fault) one ok is = record {
   site = is.site;
-  its = get_before before (one ∷ []) is.site (Err fault) is.its;
+  its = got_longer before (one ∷ []) is.site (Err fault) is.its;
   least =
       each_pushed (λ place answer. IfErr answer (λ reason. site_rank_of fault ≤ site_rank_of reason)) before (before ++ one ∷ []) one refl is.least
       (ok_no_fault (λ reason. site_rank_of fault ≤ site_rank_of reason) one ok);
@@ -84,7 +79,7 @@ reports_still : (before : List (Result Filled SiteFault)) (fault next : SiteFaul
     → IsReported before fault → IsReported (before ++ Err next ∷ []) fault
 reports_still before fault next low is = record {
   site = is.site;
-  its = get_before before (Err next ∷ []) is.site (Err fault) is.its;
+  its = got_longer before (Err next ∷ []) is.site (Err fault) is.its;
   least =
       each_pushed (λ place answer. IfErr answer (λ reason. site_rank_of fault ≤ site_rank_of reason)) before (before ++ Err next ∷ []) (Err next) refl is.least low;
   first =

@@ -19,6 +19,7 @@ use Rattle.sct_delta.specs.Sites.{most_sites}
 use Rattle.sct_delta.proofs.HeldLemmas.{and_first, one_entry}
 use Rattle.sct_site.specs.Cores.{Core, is_open}
 use Rattle.sct_site.proofs.AcceptLemmas.{messages-append}
+use Rattle.sct_site.proofs.SiteLemmas.{has_itself}
 use Rattle.sct_desk.specs.Passes.{Told, site_with}
 use Rattle.sct_desk.specs.Tilings.{AllBegin, FailsToClose, Tiles, tellings, tells}
 use Rattle.sct_desk.specs.declared.fault.DeskFault.{DeskFault}
@@ -107,10 +108,6 @@ shown_holds book own size held es (r ∷ rs) m kept begin shown =
 
 -- ---- the core
 
--- the site of an open core is one of its group
-own_inside : (own size : ℕ) → is_open own size ≡ true → has_site size own ≡ true
-own_inside own size opened = and_first (has_site size own) (not (nat_lt most_sites size)) opened
-
 comes_inside : (own size : ℕ) (held : MessageSet) (e : Placed) → has_site size own ≡ true → MayCome own size held e → (b : Bool) → nat_eq e.origin own ≡ b
     → has_site size e.origin ≡ true
 comes_inside own size held e inside comes true mine =
@@ -126,7 +123,7 @@ pub stands : (book : Book) (own size : ℕ) (held : MessageSet) (core : Core) (r
 stands book own size held core rs is opened tiles kept shown =
     let number : core.number ≡ own = ap (λ (c : Core). c.number) is in
     let group : core.group ≡ size = ap (λ (c : Core). c.group) is in
-    let inside : has_site size own ≡ true = own_inside own size ((λ i. is_open (sym number i) (sym group i)) ∙ opened) in
+    let inside : has_site size own ≡ true = has_itself own size ((λ i. is_open (sym number i) (sym group i)) ∙ opened) in
     let comes = λ (e : Placed) (among : holds core.arrivals e ≡ true).
     let place = place_of core.arrivals e among in
     let within : place.0 < length core.arrivals = slice_get_within core.arrivals place.0 e place.1 in

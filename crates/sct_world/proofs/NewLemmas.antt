@@ -16,7 +16,7 @@ use Rattle.sct_delta.specs.declared.fault.DeltaFault.{DeltaFault}
 use Rattle.sct_delta.specs.declared.fault.DeltaFault.TheVariants as fault
 use Rattle.sct_delta.proofs.FirstGapLemmas.{first_gap}
 use Rattle.sct_delta.proofs.HeldLemmas.{entry_itself, holds_from, holds_run, passes_none, some_there}
-use Rattle.sct_delta.proofs.JoinLemmas.{fresh_at, kept_is}
+use Rattle.sct_delta.proofs.JoinLemmas.{fresh_at, kept_is, none_told}
 use Rattle.sct_delta.proofs.TestLemmas.{filter_agree}
 use Rattle.sct_site.specs.Cores.{Core, fresh_entries, is_above, logs_of, refusal_by}
 use Rattle.sct_site.proofs.ArrivalLemmas.{length-log}
@@ -42,13 +42,6 @@ picked_again p (x ∷ es) =
       | true ↦ λ t. (λ i. cond (t i) (x ∷ filter p (filter p es)) (filter p (filter p es))) ∙ ap (λ (l : List Placed). x ∷ l) (picked_again p es)
       | false ↦ λ t. picked_again p es
     ] refl
-
--- where no entry passes, nothing is reported
-nothing_told : (tells : Placed → DeltaFault) (p : Placed → Bool) (ds : List Placed) → list_any p ds ≡ false → fault_of_entry tells (find p ds) ≡ None
-nothing_told tells p [] none = refl
-nothing_told tells p (d ∷ ds) none =
-    let parts : (p d ≡ false) × (list_any p ds ≡ false) = or_parts (p d) (list_any p ds) none in
-    (λ i. fault_of_entry tells (cond (parts.0 i) (Some d) (find p ds))) ∙ nothing_told tells p ds parts.1
 
 or_nothing : (o : Option DeltaFault) → option_or o None ≡ o
 or_nothing None = refl
@@ -182,10 +175,10 @@ module _ (w : State) (closed : IsClosed w) (s : ℕ) where
   unfolding first_refusal
   only_gap ds own =
       let group : ℕ = length w.held in
-      (λ i. option_or (nothing_told (λ e. fault.BadSite) (is_outside group) ds (passes_none (is_outside group) ds (λ e among. not_outside w closed s e (own e among))) i)
-      (option_or (nothing_told (λ e. fault.OwnAhead e.n) (is_ahead s log) ds (passes_none (is_ahead s log) ds (λ e among. not_ahead w closed s e (own e among))) i)
+      (λ i. option_or (none_told (λ e. fault.BadSite) (is_outside group) ds (passes_none (is_outside group) ds (λ e among. not_outside w closed s e (own e among))) i)
+      (option_or (none_told (λ e. fault.OwnAhead e.n) (is_ahead s log) ds (passes_none (is_ahead s log) ds (λ e among. not_ahead w closed s e (own e among))) i)
       (option_or (gap_refusal log ds)
-      (nothing_told (λ e. fault.Fork e.origin e.n) (is_fork log) ds (passes_none (is_fork log) ds (λ e among. no_other w closed s e (own e among) (message_at (log e.origin) e.n) refl)) i))))
+      (none_told (λ e. fault.Fork e.origin e.n) (is_fork log) ds (passes_none (is_fork log) ds (λ e among. no_other w closed s e (own e among) (message_at (log e.origin) e.n) refl)) i))))
       ∙ or_nothing (gap_refusal log ds)
 
   module _ (d : List Placed) (own : (e : Placed) → holds d e ≡ true → holds (held_at w e.origin) e ≡ true) (shape : IsDelta d) where

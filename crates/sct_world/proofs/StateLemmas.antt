@@ -8,6 +8,7 @@ use Rattle.std.proofs.lemmas.List.{get_or-set_same, get_or-set_other, length-set
 use Rattle.sct_delta.specs.Entries.{Placed}
 use Rattle.sct_delta.specs.Vectors.{count_in}
 use Rattle.sct_delta.specs.declared.fault.DeltaFault.{DeltaFault}
+use Rattle.sct_delta.proofs.LawLemmas.{got_longer}
 use Rattle.sct_site.specs.Cores.{refusal_by, arrivals_taken, arrivals_joined, entries_above, fresh_entries}
 use Rattle.sct_world.specs.States.{State, is_no_site, held_at, core_at, with_held, delta_at}
 use Rattle.sct_world.specs.Histories.{site_of, step_accepted, step_handed, step_at, step_of, after_accepted, after_handed, after_at, world_after, world_after_all}
@@ -80,16 +81,11 @@ sites-all events w site = ap (λ (n : ℕ). nat_lt site 1 || nat_lt n site) (siz
 abbrev pub IsThere : State → ℕ → List Placed → Type 0
 IsThere w k delta = delta_at w.deltas k ≡ Some delta
 
-got-append : {X : Type 0} (xs ys : List X) (i : ℕ) (x : X) → slice_get xs i ≡ Some x → slice_get (xs ++ ys) i ≡ Some x
-got-append [] ys i x is = cc
-got-append (a ∷ xs) ys zero x is = is
-got-append (a ∷ xs) ys (suc i) x is = got-append xs ys i x is
-
 there-append : (ds more : List (List Placed)) (k : ℕ) (delta : List Placed) → delta_at ds k ≡ Some delta → delta_at (ds ++ more) k ≡ Some delta
 there-append ds more k delta is =
     elim (nat_eq k 0) as (λ b. cond b None (slice_get ds (k - 1)) ≡ Some delta → cond b None (slice_get (ds ++ more) (k - 1)) ≡ Some delta) [
       | true ↦ λ e. cc
-      | false ↦ λ e. got-append ds more (k - 1) delta e
+      | false ↦ λ e. got_longer ds more (k - 1) delta e
     ] is
 
 there-accepted : (w : State) (site : ℕ) (d : List Placed) (r : Option DeltaFault) → (after_accepted w site d r).deltas ≡ w.deltas

@@ -5,7 +5,7 @@ use Rattle.sct_journal.specs.Kept.{recorded}
 use Rattle.sct_keeper.specs.Keepers.{keeper_disk, watched_site_of}
 use Rattle.sct_serve.proofs.LeaveLemmas.{replied_under}
 use Rattle.sct_serve.proofs.PieceLemmas.{leaves_on, no_read, served_all, served_end, served_more, too_long_on}
-use Rattle.sct_serve.proofs.StreamLemmas.{end_on, read_zero}
+use Rattle.sct_streams.proofs.StreamLemmas.{end_on, read_zero}
 use Rattle.sct_serve.proofs.serving.serve_input.Goals as goal
 
 pub returns-then-n-eq0-clause-replies : goal.returns-then-n-eq0-clause-replies
