@@ -16,6 +16,7 @@ import queue
 import random
 import signal
 import sqlite3
+import statistics
 import subprocess
 import sys
 import threading
@@ -364,14 +365,12 @@ def follows(trial):
             messages = messages_of([line for line in lines.split(b"\n") if line])
             yield f"after post {number} the tables are the texts", equals(mirror.path, messages, vector_of(hub.port))
         yield "the messages have what they must", len(messages) > 100 and any(len(message[2]) > 5 for message in messages)
-        late: list[float] = []  # of some changes one at least is there soon: a loaded machine may need longer for others
-        while len(late) < 8 and min(late, default=SOON) >= SOON:
-            message = instruction(f"T/2{len(late)}")
-            late.append(seconds_until_there(hub, mirror, message))
-            messages.add(oracle.read_message(samples.line(message).encode()))
-        yield f"a changed transfer is there soon, after {min(late):.2f} seconds", min(late) < SOON
-        yield "and all that comes of it", equals(mirror.path, messages, vector_of(hub.port))
-        yield from describes_itself(hub, mirror, len(posts) + len(late))
+        changes = [instruction(f"T/2{number}") for number in range(5)]
+        middle = statistics.median([seconds_until_there(hub, mirror, message) for message in changes])  # a busy machine may be late at times
+        messages |= {oracle.read_message(samples.line(message).encode()) for message in changes}
+        yield f"changed transfers are there soon, after {middle:.2f} seconds", middle < SOON
+        yield "and all that comes of them", equals(mirror.path, messages, vector_of(hub.port))
+        yield from describes_itself(hub, mirror, len(posts) + len(changes))
         yield "it loaded all once", mirror.loads() == 1
         yield "it ends in peace", mirror.end() == 0 and has(mirror.path, messages)
 
