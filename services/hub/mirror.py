@@ -406,10 +406,10 @@ class Database:
         return {path: inode_of(path) for path in [self.path, *self._beside()]}
 
     def open_again(self) -> None:
-        """Opens the file of which somebody removed a part: others would not see what it has. What is left of it is removed first."""
+        """Opens the file of which somebody removed a part: others would not see what it has. What is left of it is removed first, and what
+        somebody put in its place is not."""
         self.close()
-        if inode_of(self.path) == self.files.get(self.path):
-            remove(self.path, *self._beside())
+        remove(*(path for path, known in self.files.items() if known == inode_of(path)))
         self.open()
 
     def close(self) -> None:

@@ -16,7 +16,6 @@ import queue
 import random
 import signal
 import sqlite3
-import statistics
 import subprocess
 import sys
 import threading
@@ -36,7 +35,7 @@ from tests.property.views import touched
 MIRROR, DASHBOARD, DESK = SERVICES / "hub" / "mirror.py", SERVICES / "hub" / "dashboard.json", harness.DESK
 KILLS, LINES, SEED = 10, 500, 20261128
 PACE = 0.25  # seconds between two posts of a client, so that kills meet posts
-SOON = 1.0  # seconds in which a change is in the tables
+SOON = 1.0  # seconds in which a change must be in the tables
 PYTHON = sys.executable  # a mirror needs no package
 
 
@@ -98,7 +97,7 @@ def state(path):
     return {}
 
 
-def equals(path, messages, vector, seconds=40):
+def equals(path, messages, vector, seconds=20):
     """Whether a database comes to have the rows of some messages, and says that it has all of a vector."""
     return until(lambda: state(path).get("vector") == vector, seconds) and has(path, messages)
 
@@ -365,28 +364,21 @@ def follows(trial):
             messages = messages_of([line for line in lines.split(b"\n") if line])
             yield f"after post {number} the tables are the texts", equals(mirror.path, messages, vector_of(hub.port))
         yield "the messages have what they must", len(messages) > 100 and any(len(message[2]) > 5 for message in messages)
-        changes = [instruction(f"T/2{number}") for number in range(5)]
-        middle = statistics.median([seconds_until_there(hub, mirror, message) for message in changes])  # a busy machine may be late at times
-        messages |= {oracle.read_message(samples.line(message).encode()) for message in changes}
-        yield f"changed transfers are there soon, after {middle:.2f} seconds", middle < SOON
-        yield "and all that comes of them", equals(mirror.path, messages, vector_of(hub.port))
-        yield from describes_itself(hub, mirror, len(posts) + len(changes))
+        asked(hub.port, "/messages", samples.line(instruction("T/2")).encode())
+        question = "SELECT status FROM transfer WHERE transfer_id = 'T/2'"
+        yield "a changed transfer is there soon", until(lambda: rows_in(mirror.path, question) == [("PENDING",)], SOON)
+        messages.add(oracle.read_message(samples.line(instruction("T/2")).encode()))
+        yield "and all that comes of it", equals(mirror.path, messages, vector_of(hub.port), 2)
+        yield from describes_itself(hub, mirror, len(posts) + 1)
         yield "it loaded all once", mirror.loads() == 1
         yield "it ends in peace", mirror.end() == 0 and has(mirror.path, messages)
-
-
-def seconds_until_there(hub, mirror, message):
-    """The seconds from the acknowledgement of an instruction until its transfer is in the tables."""
-    asked(hub.port, "/messages", samples.line(message).encode())
-    began, question = time.monotonic(), f"SELECT status FROM transfer WHERE transfer_id = '{message['TxId']}'"
-    return time.monotonic() - began if until(lambda: rows_in(mirror.path, question) == [("PENDING",)]) else float(sites.LATEST)
 
 
 def describes_itself(hub, mirror, events):
     """What a mirror says of itself, and who may read it."""
     its = state(mirror.path)
     age = time.time() - calendar.timegm(time.strptime(its.pop("time"), "%Y-%m-%dT%H:%M:%SZ"))
-    yield "it says when it had all, and which event was the last", -1 < age < 30 and its.pop("event").rpartition("-")[2] == f"{events}"
+    yield "it says when it had all, and which event was the last", -1 < age < 8 and its.pop("event").rpartition("-")[2] == f"{events}"
     yield "it says which site it mirrors, and what it has", its == {"site": 1, "group": 64, "url": hub.url, "vector": vector_of(hub.port)}
     yield "it compares itself", ran(hub.url, mirror.path, "--compare") == (0, f"equal at {vector_of(hub.port)}\n")
     files = [path for path in mirror.path.parent.glob(f"{mirror.path.name}*") if path != mirror.log]
@@ -473,17 +465,17 @@ def loads_after_many(trial):
         until(lambda: state(mirror.path).get("vector") == "-")
         lines = [inputs.instruction(number).encode() for number in range(2100)]
         asked(hub.port, "/messages", b"".join(lines))
-        yield "after an event without names the tables are the texts", equals(mirror.path, messages_of(lines), "1:2100")
+        yield "after an event without names the tables are the texts", equals(mirror.path, messages_of(lines), "1:2100", 40)
         yield "it loaded all again", mirror.loads() == 2
         asked(hub.port, "/messages", inputs.confirmation(7).encode())
         question = "SELECT status FROM transfer WHERE transfer_id = 'T7'"
-        yield "and then it follows", until(lambda: rows_in(mirror.path, question) == [("ACCEPTED",)]) and mirror.loads() == 2
+        yield "and then it follows", until(lambda: rows_in(mirror.path, question) == [("ACCEPTED",)], 10) and mirror.loads() == 2
     with Led() as site, Mirror(site.url, trial.fresh("most.db")) as mirror:
         listens(site)
         site.take(*(instruction(f"A{number}") for number in range(900)))
-        yield "900 transfers are asked for one by one", equals(mirror.path, site.held, "1:900") and mirror.loads() == 1
+        yield "900 transfers are asked for one by one", equals(mirror.path, site.held, "1:900", 20) and mirror.loads() == 1
         site.take(*(instruction(f"B{number}") for number in range(1100)))
-        yield "1,100 are loaded with all", equals(mirror.path, site.held, "1:2000") and mirror.loads() == 2
+        yield "1,100 are loaded with all", equals(mirror.path, site.held, "1:2000", 20) and mirror.loads() == 2
 
 
 # ---- what is removed and dropped
@@ -508,23 +500,24 @@ def is_made_again(trial):
         site.take(*map(instruction, "ABC"), recall("A", "B"), confirmation("A"), rejection("A", MsgId="X"))
 
         def is_right():
-            return equals(mirror.path, site.held, site.vector())
+            return equals(mirror.path, site.held, site.vector(), 5)
 
         index = "SELECT name FROM sqlite_master WHERE name = 'message_on'"
         yield "the tables are the texts", is_right()
         for name, done in DONE.items():
             does(mirror.path, done)
-            yield name, until(is_right) and until(lambda: rows_in(mirror.path, index) == [("message_on",)])
+            yield name, until(is_right, 6) and until(lambda: rows_in(mirror.path, index) == [("message_on",)], 6)
         yield "the view stays", len(rows_in(mirror.path, "SELECT * FROM mine")) == 3
         for which in ([""], ["-wal"], ["-shm"], ["", "-wal", "-shm"], ["", "-wal", "-shm", ".lock"]):
             for end in which:
                 pathlib.Path(f"{mirror.path}{end}").unlink(missing_ok=True)  # the mirror may have removed it
             site.take(instruction(f"E{' '.join(which)}"))
-            yield f"files removed: {' '.join(which)}", until(lambda: mirror.path.exists() and is_right())
+            yield f"files removed: {' '.join(which)}", until(lambda: mirror.path.exists() and is_right(), 6)
         site.take(instruction("D"))
         yield "and it goes on", is_right() and mirror.process.poll() is None
         yield from has_one_mirror(site, mirror)
         yield from leaves_others(trial, site, mirror.path)
+        yield from leaves_what_replaced_it(trial, site)
 
 
 def has_one_mirror(site, mirror):
@@ -551,6 +544,18 @@ def leaves_others(trial, site, path):
     status, said = ran(site.url, path, "--once")
     yield "a damaged mirror is said to be one", status == 2 and "damaged" in said and "Traceback" not in said
     yield "a folder that is not there is said", ran(site.url, "/nowhere/mirror.db")[0] == 2
+
+
+def leaves_what_replaced_it(trial, site):
+    """A database that somebody puts in the place of a mirror that runs is left as it is."""
+    other = trial.fresh("replacing.db")
+    does(other, "CREATE TABLE message (x)", "INSERT INTO message VALUES (1)")
+    before = other.read_bytes()
+    with Mirror(site.url, trial.fresh("replaced.db")) as mirror:
+        equals(mirror.path, site.held, site.vector())
+        os.replace(other, mirror.path)
+        yield "what replaced it is left as it is", mirror.process.wait(20) == 2 and "not one of a mirror" in mirror.said() and (
+            mirror.path.read_bytes() == before)
 
 
 # ---- odd moments
@@ -584,7 +589,7 @@ def brings_the_last(trial):
     with Led() as site, Mirror(site.url, trial.fresh("last.db")) as mirror:
         listens(site)
         released = threading.Event()
-        site.instead = lambda request: request.path.endswith("/messages") and not released.wait(60)
+        site.instead = lambda request: request.path.endswith("/messages") and not released.wait(10)
         site.take(instruction("A"))
         until(lambda: any(path.endswith("/messages") for path, *_ in list(site.asked)))
         for message in (instruction("B"), samples.request(OrgnlTxId="B"), confirmation("B")):
@@ -595,13 +600,13 @@ def brings_the_last(trial):
         site.instead = lambda request: request.path == "/totals" and not released.wait(60)
         site.paths()
         site.take(instruction("C"))
-        until(lambda: site.has_asked("/totals"))
+        until(lambda: site.paths().count("/totals"))
         site.take(instruction("D"))
         count = "SELECT count(*) FROM transfer JOIN message USING (bank, transfer_id) WHERE transfer_id IN ('C', 'D')"
-        yield "a change does not wait for totals", until(lambda: rows_in(mirror.path, count) == [(2,)]) and (
+        yield "a change does not wait for totals", until(lambda: rows_in(mirror.path, count) == [(2,)], SOON) and (
             state(mirror.path)["vector"] == "1:4")
         released.set()
-        yield "totals come in their time", equals(mirror.path, site.held, "1:6")
+        yield "totals come in their time", equals(mirror.path, site.held, "1:6", 15)
 
 
 def says_what_it_has(trial):
@@ -619,7 +624,7 @@ def says_what_it_has(trial):
             site.release()
             site.late = second
         names = "SELECT transfer_id FROM transfer ORDER BY transfer_id"
-        yield "a change whose event came", until(lambda: rows_in(mirror.path, names) == [("A",), ("B",)])
+        yield "a change whose event came", until(lambda: rows_in(mirror.path, names) == [("A",), ("B",)], 5)
         time.sleep(2.5)
         yield "and one whose event did not", state(mirror.path)["vector"] == "1:1" and rows_in(mirror.path, names) == [("A",), ("B",)]
         site.release()
@@ -627,7 +632,7 @@ def says_what_it_has(trial):
         site.take(instruction("D"), has_lines=False)
         yield "an event without lines", equals(mirror.path, site.held, "1:4")
         site.count += 1  # a message that is held came of a peer once more, under a second number
-        yield "a vector that grew without an event", equals(mirror.path, site.held, "1:5")
+        yield "a vector that grew without an event", equals(mirror.path, site.held, "1:5", 12)
 
 
 def goes_on(trial):
@@ -686,7 +691,7 @@ def opens_again(trial):
         site.publish("transfers", "odd")
         yield "one that had something else", until(lambda: "something else" in mirror.said()) and listens(site)
         site.take(instruction("D"))
-        yield "and then it follows", equals(mirror.path, site.held, "1:4")
+        yield "and then it follows", equals(mirror.path, site.held, "1:4", 15)
         site.run, site.events, site.held, site.count = "c3", [], set(), 0
         site.cut()
         yield "a site that begins anew", until(lambda: has(mirror.path, set()) and state(mirror.path)["vector"] == "-")
@@ -826,7 +831,7 @@ def answers_questions(trial):
         listens(site)
         for place in range(0, len(messages), 10):
             site.take(*(json.loads(oracle.written(message)) for message in messages[place:place + 10]))
-        yield "the messages come in turn", equals(mirror.path, site.held, site.vector()) and mirror.loads() == 1
+        yield "the messages come in turn", equals(mirror.path, site.held, site.vector(), 20) and mirror.loads() == 1
         path = loaded(trial.fresh("day"), site.held)
         known = [line.split(":")[0].split() for line in ask(path)[0].decode().split("\n")[:-1]]
         yield "there are seven questions", len(known) == 7
