@@ -54,7 +54,7 @@
  *     70 Empty             the handle has no site
  *     71 Full              the handle has a site already
  *     72 BadVector         the text is not a version vector
- *     73 BadArgument       a bank, an identification or a day is not valid: the place is that of the argument, from 1
+ *     73 BadArgument       a bank, an identification, a day, an origin, a count or a size is not valid: the place is that of the argument, from 1
  *
  * `place` counts from 1. It is 0 with every other number. docs/users/codes.md has a remedy for each.
  *
@@ -242,6 +242,27 @@ SCT_CALL SCT_READ sct_outcome sct_site_cut(sct_site *site, const uint8_t *vector
  * Refusals: 44 (more than 1024 items), 65, 70. */
 SCT_CALL SCT_READ sct_outcome sct_site_cut_above(sct_site *site, const uint64_t *counts, size_t items);
 
+/* The answer becomes a delta, a text of form 2, of the messages of one site numbered above a count, in their order: as many as a text of
+ * `most` bytes has room for, and at least one if there is one. A site that asks so again and again, each time above what it holds, has all
+ * when a text without a message comes. `origin` is 1 to 1024, and one that is no site of the group has no messages. `most` is 1 to 67108863.
+ * The cost is that of the text and of one message, and not that of what is held.
+ * Refusals: 65, 70, 73 (1: the origin, 3: `most`). */
+SCT_CALL SCT_READ sct_outcome sct_site_entries(sct_site *site, uint16_t origin, uint64_t above, uint64_t most);
+
+/* The answer becomes the digest of the first `count` messages of one site, in the order of their numbers, as 64 small hexadecimal digits.
+ * The digest of no messages is 32 bytes of 0. That of some messages and one more is SHA-256 of the digest before it and of the line of that
+ * message in the archive text, with its line feed. So two sites with one digest of a count hold the same messages up to it. `origin` is
+ * 1 to 1024, and one that is no site of the group has no messages. The cost is that of the messages that came since a digest was asked
+ * for, or that of 1024 messages.
+ * Refusals: 65, 70, 73 (1: the origin, 2: the count is above what the site holds). */
+SCT_CALL SCT_READ sct_outcome sct_site_digest(sct_site *site, uint16_t origin, uint64_t count);
+
+/* The answer becomes a line such as `3:7:05c1..` for each site of which this one holds messages, ascending: its number, how many messages of
+ * it are held, and the digest of all of them. Two sites with equal texts hold the same messages under the same numbers. The cost is that of
+ * the messages that came since digests were asked for, and one look at each site.
+ * Refusals: 65, 70. */
+SCT_CALL SCT_READ sct_outcome sct_site_digests_text(sct_site *site);
+
 /* The answer becomes the site's own messages numbered above a count, one on each line, as the archive text has them: the lines that a
  * journal lacks which has so many lines. Its cost is that of what came since the last one that is left out.
  * Refusals: 65, 70. */
@@ -377,6 +398,9 @@ sct_outcome sct_raw_counts(sct_site *site, uint64_t *counts, size_t items);
 sct_outcome sct_raw_vector_text(sct_site *site);
 sct_outcome sct_raw_cut(sct_site *site, const uint8_t *vector, size_t length);
 sct_outcome sct_raw_cut_above(sct_site *site, const uint64_t *counts, size_t items);
+sct_outcome sct_raw_entries(sct_site *site, uint16_t origin, uint64_t above, uint64_t most);
+sct_outcome sct_raw_digest(sct_site *site, uint16_t origin, uint64_t count);
+sct_outcome sct_raw_digests_text(sct_site *site);
 sct_outcome sct_raw_journal_text(sct_site *site, uint64_t above);
 sct_outcome sct_raw_newest_text(sct_site *site, uint64_t count);
 sct_outcome sct_raw_reading_text(sct_site *site, const uint8_t *text, size_t length);
@@ -452,6 +476,18 @@ static inline sct_outcome sct_site_cut(sct_site *site, const uint8_t *vector, si
 
 static inline sct_outcome sct_site_cut_above(sct_site *site, const uint64_t *counts, size_t items) {
     return sct_raw_cut_above(site, (const uint64_t *)sct_private_at(counts, items), items);
+}
+
+static inline sct_outcome sct_site_entries(sct_site *site, uint16_t origin, uint64_t above, uint64_t most) {
+    return sct_raw_entries(site, origin, above, most);
+}
+
+static inline sct_outcome sct_site_digest(sct_site *site, uint16_t origin, uint64_t count) {
+    return sct_raw_digest(site, origin, count);
+}
+
+static inline sct_outcome sct_site_digests_text(sct_site *site) {
+    return sct_raw_digests_text(site);
 }
 
 static inline sct_outcome sct_site_journal_text(sct_site *site, uint64_t above) {
@@ -587,6 +623,11 @@ class site {
     SCT_READ sct_outcome vector_text() { return sct_site_vector_text(&handle_); }
     SCT_READ sct_outcome cut(const std::string &vector) { return sct_site_cut(&handle_, at(vector), vector.size()); }
     SCT_READ sct_outcome cut_above(const uint64_t *counts, size_t items) { return sct_site_cut_above(&handle_, counts, items); }
+    SCT_READ sct_outcome entries(uint16_t origin, uint64_t above, uint64_t most) {
+        return sct_site_entries(&handle_, origin, above, most);
+    }
+    SCT_READ sct_outcome digest(uint16_t origin, uint64_t count) { return sct_site_digest(&handle_, origin, count); }
+    SCT_READ sct_outcome digests_text() { return sct_site_digests_text(&handle_); }
     SCT_READ sct_outcome journal_text(uint64_t above) { return sct_site_journal_text(&handle_, above); }
     SCT_READ sct_outcome newest_text(uint64_t count) { return sct_site_newest_text(&handle_, count); }
     SCT_READ sct_outcome reading_text(const std::string &text) { return sct_site_reading_text(&handle_, at(text), text.size()); }

@@ -109,6 +109,49 @@ pub extern "C" fn sct_raw_cut_above(alloc: Global, site: &mut Place, counts: &[u
     site.ask(alloc, Question::CutAbove(counts))
 }
 
+/// The delta of the entries of an origin numbered above a count becomes the answer: as many as a text of `most` bytes has room
+/// for, but at least the first.
+#[unsafe(no_mangle)]
+pub extern "C" fn sct_raw_entries(
+    alloc: Global,
+    site: &mut Place,
+    origin: u16,
+    above: u64,
+    most: u64,
+) -> CallOutcome
+    ensures { IsCalled refused_as (Asks (question.Entries origin above most)) site.old.handle.held result site.new.handle.held }
+{
+    site.ask(
+        alloc,
+        Question::Entries {
+            origin,
+            above,
+            most,
+        },
+    )
+}
+
+/// The 64 hexadecimal digits of the digest of an origin's entries up to a count become the answer.
+#[unsafe(no_mangle)]
+pub extern "C" fn sct_raw_digest(
+    alloc: Global,
+    site: &mut Place,
+    origin: u16,
+    count: u64,
+) -> CallOutcome
+    ensures { IsCalled refused_as (Asks (question.Digest origin count)) site.old.handle.held result site.new.handle.held }
+{
+    site.ask(alloc, Question::Digest { origin, count })
+}
+
+/// A line with the digest of each origin of which the site holds entries becomes the answer.
+#[unsafe(no_mangle)]
+pub extern "C" fn sct_raw_digests_text(alloc: Global, site: &mut Place) -> CallOutcome
+    ensures { IsCalled refused_as (Asks question.Digests) site.old.handle.held result site.new.handle.held }
+{
+    site.ask(alloc, Question::Digests)
+}
+
 /// The site's own messages numbered above a count become the answer, each on a line.
 #[unsafe(no_mangle)]
 pub extern "C" fn sct_raw_journal_text(alloc: Global, site: &mut Place, above: u64) -> CallOutcome

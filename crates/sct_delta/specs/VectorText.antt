@@ -55,6 +55,10 @@ vector_text count = pairs_text (pairs_of count)
 abbrev pub origin_named : ℕ → Option ℕ
 origin_named number = if is_site number then Some number else None
 
+-- the origin that a text names by its number
+abbrev pub origin_of_text : List ℕ → Option ℕ
+origin_of_text text = option_and_then origin_named (number_in text)
+
 abbrev pub pair_with : ℕ → Option ℕ → Option Pair
 pair_with origin count = option_map (λ n. (origin, n)) count
 
@@ -62,7 +66,7 @@ abbrev pub pair_to : Option ℕ → List ℕ → Option Pair
 pair_to None text = None
 pair_to (Some at) text =
     option_and_then (λ origin. pair_with origin (number_in (drop (at + 1) text)))
-    (option_and_then origin_named (number_in (take at text)))
+    (origin_of_text (take at text))
 
 -- an origin and its count, with a colon between them; a count may be 0
 unfoldable pub pair_in : List ℕ → Option Pair

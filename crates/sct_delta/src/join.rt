@@ -42,7 +42,8 @@ impl Logs {
 
     /// Makes room for the entries of a delta, so that joining it does not allocate. The entries held stay as they are.
     /// Error: `Memory` (40); the logs then keep nothing for an origin that holds no message. O(entries of the delta).
-    /// The room is kept until a `join`, or until `drop_empty` if nothing is joined.
+    /// The room lasts until its entries come, by `append_all` or `join`. A `join`, `drop_empty`, and a call that is refused by
+    /// `Memory` take it away from an origin that holds no message.
     pub fn reserve(&mut self, delta: &Delta) -> Result<(), DeltaFault>
         ensures group { self.new.group ≡ self.old.group }
         ensures same { HoldSame self.new self.old }

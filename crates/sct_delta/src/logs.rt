@@ -3,6 +3,7 @@
 ghost use Rattle.std.specs.Prelude.{◌≡◌, ◌≢◌, ◌≤◌, ◌<◌, ◌^◌, ◌+◌, ℕ, [], None, true, false, length, nat_eq, nat_lt, if◌then◌else◌, OnOk, OnErr, IfOk, IfErr, IsOk, MatchOption, option_map};
 ghost use Rattle.std.specs.Arc.{arc_value};
 ghost use Rattle.std.specs.Option.{option_copied};
+ghost use Rattle.sct_message.specs.Sets.{messages_in};
 ghost use Rattle.sct_delta.specs.Entries.{entries_from, log_of, numbered, IsDelta};
 ghost use Rattle.sct_delta.specs.Vectors.{count_in};
 ghost use Rattle.sct_delta.specs.Refusals.{appended, first_refusal, fresh_in, has_site, is_new, message_at, refusal_at, vector_of, IsCut};
@@ -73,6 +74,13 @@ impl Logs {
         ensures { option_map arc_value (option_copied result) ≡ message_at (log_in self.now origin) n }
     {
         self.shelf.get(origin, n)
+    }
+
+    /// The messages held of an origin, in the order of their numbers. O(log origins).
+    pub fn log(&self, origin: u16) -> &[Arc<Message>]
+        ensures { messages_in result.now ≡ log_in self.now origin }
+    {
+        self.shelf.log(origin)
     }
 
     // Whether no entry is held under the number of this one. It looks at no message.
@@ -170,14 +178,16 @@ impl Logs {
     /// Makes room for one more message of the origin, so that a `push` at that origin does not
     /// allocate. The entries held stay as they are.
     /// Errors: `BadSite` (44) if the group does not have the origin; `Memory` (40), and the logs then keep
-    /// nothing for an origin that holds no message.
-    /// The room is kept until a `push`, or until `drop_empty` if nothing is pushed. O(log origins).
+    /// nothing for an origin that holds no message. After 44 the logs are as they were.
+    /// The room lasts until a `push` of the origin. A `join`, `drop_empty`, and a call that is refused by `Memory` take it away
+    /// from an origin that holds no message. O(log origins).
     pub fn room(&mut self, origin: u16) -> Result<(), DeltaFault>
         ensures group { self.new.group ≡ self.old.group }
         ensures same { HoldSame self.new self.old }
         ensures ok { OnOk result (HasRoom self.new origin) }
         ensures site { OnOk result (has_site self.old.group origin ≡ true) }
         ensures err { IfErr result (λ refusal. refusal ≡ refusal_at self.old.group origin) }
+        ensures as_it_was { IfErr result (λ refusal. refusal ≢ fault.Memory → self.new ≡ self.old) }
         ensures there { HasRoom self.old origin → IfErr result (λ refusal. refusal ≢ fault.Memory) }
         ensures due { OnOk result ((due : ℕ → ℕ) → 1 ≤ due origin → KeepsEmptyIfDue due self.old
             → KeepsEmptyIfDue due self.new) }
@@ -195,8 +205,8 @@ impl Logs {
 
     /// Appends a message as the next entry of its origin. Returns the number of that entry. It does not
     /// allocate right after `room` of the origin.
-    /// Errors: `BadSite` (44) if the group does not have the origin; `Memory` (40), and the logs then keep nothing for
-    /// an origin that holds no message. The entries held are then unchanged. O(log origins).
+    /// Errors: `BadSite` (44) if the group does not have the origin, and the logs are then as they were; `Memory` (40), and
+    /// they then keep nothing for an origin that holds no message. The entries held are then unchanged. O(log origins).
     pub fn push(&mut self, origin: u16, message: Arc<Message>) -> Result<u64, DeltaFault>
         ensures group { self.new.group ≡ self.old.group }
         ensures answer { IfOk result (λ n. n ≡ vector_of (log_in self.old) origin + 1) }
@@ -205,6 +215,7 @@ impl Logs {
         ensures site { OnOk result (has_site self.old.group origin ≡ true) }
         ensures err { IfErr result (λ refusal. refusal ≡ refusal_at self.old.group origin) }
         ensures unchanged { OnErr result (HoldSame self.new self.old) }
+        ensures as_it_was { IfErr result (λ refusal. refusal ≢ fault.Memory → self.new ≡ self.old) }
         ensures room { HasRoom self.old origin → IfErr result (λ refusal. refusal ≢ fault.Memory) }
         ensures kept { OnOk result (KeepsNoEmpty self.old → KeepsNoEmpty self.new) }
         ensures filled { IfErr result (λ refusal. refusal ≡ fault.Memory → KeepsNoEmpty self.new) }

@@ -6,7 +6,7 @@ ghost use Rattle.sct_delta.specs.Sites.{is_site, is_site_of_form_1};
 pub const MOST_SITES: u16 = 1024;
 
 /// Whether a site may have this number: 1 to 1024.
-pub(crate) fn is_site(origin: u16) -> bool
+pub fn is_site(origin: u16) -> bool
     ensures { result ≡ is_site origin }
 {
     1 <= origin && origin <= MOST_SITES

@@ -1,4 +1,4 @@
--- A view that shows the first arrivals shows them whatever comes after them, and what changed up to then stays.
+-- A view that shows the first arrivals shows them whatever comes after them, and what changed up to then stays, as do digests.
 use Rattle.std.proofs.Common.{◌≡◌, ◌∙◌, ap, sym, subst, ℕ, ◌≤◌, List, [], ◌∷◌, ◌++◌, Bool, true, false, Option, Some, None, length, arith}
 use Rattle.std.proofs.lemmas.List.{length-append, take-append-le, take_all}
 use Rattle.sct_message.specs.declared.draft.Draft.{Draft}
@@ -10,6 +10,7 @@ use Rattle.sct_view.specs.Touched.{touched_in}
 use Rattle.sct_embed.specs.Showing.{IsShowing, IsShown, IsWatched}
 use Rattle.sct_embed.specs.declared.changes.Watch.{Watch}
 use Rattle.sct_embed.specs.declared.showing.Showing.{Showing}
+use Rattle.sct_digest.proofs.KeepingLemmas.{kept_before}
 use Rattle.sct_exchange.specs.Journals.{core_taking}
 
 shown_before : (k : ℕ) (es ds : List Placed) (v : MessageSet) → IsShown k es v → IsShown k (es ++ ds) v
@@ -30,6 +31,7 @@ pub showing_before : (s : Showing) (es ds : List Placed) → IsShowing s es → 
 showing_before s es ds was = record {
   shown = shown_before s.count es ds s.view was.shown;
   watched = watched_before s.watch s.count es ds was.shown.within was.watched;
+  digests = kept_before s.digests es ds was.digests;
 }
 
 showing_by : (s : Showing) (core : Core) (m : Draft) (b : Bool) → is_repeat core m ≡ b → IsShowing s core.arrivals → IsShowing s (arrivals_taken core m)

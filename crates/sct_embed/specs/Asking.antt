@@ -5,8 +5,9 @@ use Rattle.sct_view.specs.StatusText.{status_text_of}
 use Rattle.sct_view.specs.TotalsText.{totals_text_of}
 use Rattle.sct_delta.specs.Entries.{Placed, messages_of}
 use Rattle.sct_site.specs.Cores.{Core}
+use Rattle.sct_digest.specs.Digests.{digests_text}
 use Rattle.sct_exchange.specs.Sites.{held_text}
-use Rattle.sct_embed.specs.Calls.{cut_above_answer, cut_answer}
+use Rattle.sct_embed.specs.Calls.{cut_above_answer, cut_answer, digest_answer, entries_answer}
 use Rattle.sct_embed.specs.Embeddings.{Embedding}
 use Rattle.sct_embed.specs.Questions.{bank_answer, changes_since, closed_answer, contradictions_text_of, kept_answer, messages_answer, report_answer, transfer_answer}
 use Rattle.sct_embed.specs.Reading.{reading_text_of}
@@ -46,6 +47,9 @@ answer_to_question question.Contradictions site = Ok (contradictions_text_of (me
 answer_to_question question.Vector site = Ok (held_text site.core.arrivals)
 answer_to_question (question.Cut vector) site = cut_answer vector.now site.core.arrivals
 answer_to_question (question.CutAbove counts) site = cut_above_answer counts.now site.core.arrivals
+answer_to_question (question.Entries origin above most) site = entries_answer origin above most site.core.arrivals
+answer_to_question (question.Digest origin count) site = digest_answer origin count site.core.arrivals
+answer_to_question question.Digests site = Ok (digests_text site.core.arrivals)
 answer_to_question (question.Journal above) site = Ok (journal_text above site.core)
 answer_to_question (question.Newest count) site = Ok (newest_text count site.core.arrivals)
 answer_to_question (question.Reading text) site = Ok (reading_text_of text.now)

@@ -1,15 +1,17 @@
 -- The effects of calls of an embedded site, and why they are refused. Read by an auditor.
-use Rattle.std.specs.Prelude.{◌≡◌, ℕ, List, Option, Some, None, Result, Ok, Err, if◌then◌else◌, length, nat_lt, ⊤}
+use Rattle.std.specs.Prelude.{◌≡◌, ◌&&◌, ℕ, Bool, List, Option, Some, None, Result, Ok, Err, if◌then◌else◌, length, nat_le, nat_lt, ⊤}
 use Rattle.sct_message.specs.declared.draft.Draft.{Draft}
 use Rattle.sct_json.specs.Reading.{message_in}
 use Rattle.sct_delta.specs.DeltaText.{delta_in}
-use Rattle.sct_delta.specs.Entries.{Placed}
+use Rattle.sct_delta.specs.Entries.{Placed, held_from}
 use Rattle.sct_delta.specs.Sites.{most_sites}
 use Rattle.sct_delta.specs.declared.fault.DeltaFault.TheVariants as delta
-use Rattle.sct_delta.specs.VectorText.{Pair, counts_of, vector_in}
+use Rattle.sct_delta.specs.VectorText.{Pair, counts_of, origin_named, vector_in}
 use Rattle.sct_site.specs.Cores.{Core, took_by, core_taken, core_joined, fresh_entries, refusal_by}
 use Rattle.sct_site.specs.declared.answers.Took.{Took}
 use Rattle.sct_site.specs.declared.answers.Accepted.{Accepted}
+use Rattle.sct_digest.specs.Digests.{digest_text}
+use Rattle.sct_exchange.specs.Entries.{entries_text}
 use Rattle.sct_exchange.specs.Rounds.{refusal_of}
 use Rattle.sct_exchange.specs.Sites.{cut_text}
 use Rattle.sct_embed.specs.Counts.{count_of_origin}
@@ -74,3 +76,39 @@ cut_answer vector arrivals = cut_for (vector_in vector) arrivals
 abbrev pub cut_above_answer : List ℕ → List Placed → Result (List ℕ) EmbedFault
 cut_above_answer counts arrivals =
     if nat_lt most_sites (length counts) then Err (fault.Delta delta.BadSite) else Ok (cut_text (count_of_origin counts) arrivals)
+
+-- ---- the entries of one origin
+
+-- A question may give a text at least one byte, and at most so many that the text, with tabs in place of its line feeds, is a
+-- request of `serve`.
+abbrev pub is_text_size : ℕ → Bool
+is_text_size most = nat_le 1 most && nat_le most 67108863
+
+abbrev pub text_size_named : ℕ → Option ℕ
+text_size_named most = if is_text_size most then Some most else None
+
+-- the entries of an origin above a count, in a text of a size, if these are valid; if one is not, the first such argument, from 1
+abbrev pub entries_by_arguments : Option ℕ → Option ℕ → Option ℕ → List Placed → Result (List ℕ) EmbedFault
+entries_by_arguments None above most arrivals = Err (fault.BadArgument 1)
+entries_by_arguments (Some origin) None most arrivals = Err (fault.BadArgument 2)
+entries_by_arguments (Some origin) (Some above) None arrivals = Err (fault.BadArgument 3)
+entries_by_arguments (Some origin) (Some above) (Some most) arrivals = Ok (entries_text origin above most arrivals)
+
+abbrev pub entries_answer : ℕ → ℕ → ℕ → List Placed → Result (List ℕ) EmbedFault
+entries_answer origin above most arrivals = entries_by_arguments (origin_named origin) (Some above) (text_size_named most) arrivals
+
+-- ---- a digest
+
+-- the digest of the first entries of an origin, if the site holds so many
+abbrev pub digest_if_held : ℕ → ℕ → List Placed → Result (List ℕ) EmbedFault
+digest_if_held origin count arrivals =
+    if nat_le count (held_from origin arrivals) then Ok (digest_text origin count arrivals) else Err (fault.BadArgument 2)
+
+-- and if these are an origin and a count; if one is not, the first such argument, from 1
+abbrev pub digest_by_arguments : Option ℕ → Option ℕ → List Placed → Result (List ℕ) EmbedFault
+digest_by_arguments None count arrivals = Err (fault.BadArgument 1)
+digest_by_arguments (Some origin) None arrivals = Err (fault.BadArgument 2)
+digest_by_arguments (Some origin) (Some count) arrivals = digest_if_held origin count arrivals
+
+abbrev pub digest_answer : ℕ → ℕ → List Placed → Result (List ℕ) EmbedFault
+digest_answer origin count arrivals = digest_by_arguments (origin_named origin) (Some count) arrivals

@@ -50,5 +50,5 @@ code_text code =
     else if code == 70 then codes "the handle has no site"
     else if code == 71 then codes "the handle has a site already"
     else if code == 72 then codes "the text is not a version vector"
-    else if code == 73 then codes "a bank, an identification or a day is not valid: the place is that of the argument, from 1"
+    else if code == 73 then codes "a bank, an identification, a day, an origin, a count or a size is not valid: the place is that of the argument, from 1"
     else []

@@ -1,8 +1,9 @@
-//! The arguments of a question: a transfer by the bytes of its texts, and a version vector by counts, that of origin 1 first. A
-//! vector is also written so.
+//! The arguments of a question: a transfer by the bytes of its texts, the size of a text, and a version vector by counts, that of
+//! origin 1 first. A vector is also written so.
 
 ghost use Rattle.std.specs.Prelude.{◌≡◌, ◌<◌, ◌≤◌, ◌+◌, ℕ, Ok, Err, length, slice_index, IfErr, IfOk, OnOk};
 ghost use Rattle.sct_delta.specs.Vectors.{count_in};
+ghost use Rattle.sct_embed.specs.Calls.{is_text_size};
 ghost use Rattle.sct_embed.specs.Counts.{count_of_origin, pairs_from, RefusesCounts};
 ghost use Rattle.sct_embed.specs.Questions.{bank_in, identification_in, transfer_from};
 
@@ -23,6 +24,16 @@ pub(crate) fn transfer_of(bank: &[u8], tx: &[u8]) -> Result<TransferKey, EmbedFa
         return Err(EmbedFault::BadArgument(2));
     };
     Ok(TransferKey { debtor_agent, tx })
+}
+
+// The greatest size that a question may give a text, in bytes: such a text is no longer than a request of `serve` may be.
+const MOST_TEXT: u64 = 67108863;
+
+/// Whether a question may give a text this size, in bytes: 1 to 67108863.
+pub(crate) fn is_text_size(most: u64) -> bool
+    ensures { result ≡ is_text_size most }
+{
+    1 <= most && most <= MOST_TEXT
 }
 
 // Each count with its origin.

@@ -66,7 +66,7 @@ fn text_of(code: u8) -> &'static str
         71 => "the handle has a site already",
         72 => "the text is not a version vector",
         73 =>
-            "a bank, an identification or a day is not valid: the place is that of the argument, from 1",
+            "a bank, an identification, a day, an origin, a count or a size is not valid: the place is that of the argument, from 1",
         _ => "",
     }
 }

@@ -34,7 +34,8 @@ pub enum EmbedFault {
     /// 72: the text is not a version vector.
     #[error("the text is not a version vector")]
     BadVector,
-    /// 73: a bank, an identification or a day is not valid. The number says which argument of the call it is, from 1.
+    /// 73: a bank, an identification, a day, an origin, a count or a size is not valid. The number says which argument of the call
+    /// it is, from 1.
     #[error("argument {0} is not valid")]
     BadArgument(u64),
 }

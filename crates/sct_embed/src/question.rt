@@ -20,6 +20,30 @@ pub enum Question<'a> {
     /// The same above a vector of counts, that of origin 1 first. An origin after them counts 0.
     /// Refusal: `BadSite` (44) if there are more than 1024 counts.
     CutAbove(&'a [u64]),
+    /// The delta text, of form 2, of the entries of an origin that are numbered above a count, in the order of their numbers: as
+    /// many as a text of `most` bytes has room for, but at least the first. There may be none.
+    /// The cost is that of the entries that it writes, and of one more.
+    /// Refusal: `BadArgument` (73), 1 for the origin, if no site has that number, and 3 for the size, which is 1 to 67108863.
+    Entries {
+        /// The origin.
+        origin: u16,
+        /// The count.
+        above: u64,
+        /// How many bytes the text may have.
+        most: u64,
+    },
+    /// The 64 hexadecimal digits of the digest of an origin's entries up to a count. What is new of the origin is looked at; then
+    /// O(1,024). Refusal: `BadArgument` (73), 1 for the origin, if no site has that number, and 2 for the count, if the site holds
+    /// fewer entries of it.
+    Digest {
+        /// The origin.
+        origin: u16,
+        /// The count.
+        count: u64,
+    },
+    /// A line for each origin of which the site holds entries, ascending: its number, how many entries they are and the digest
+    /// of all of them, with colons between. What is new is looked at; then O(origins).
+    Digests,
     /// The site's own messages numbered above a count, each on a line: what a journal lacks that has so many.
     /// O(entries that came after the last own one that is left out).
     Journal(u64),

@@ -7,19 +7,20 @@ ghost use Rattle.sct_set.specs.Archive.{archive_text_of};
 ghost use Rattle.sct_view.specs.StatusText.{status_text_of};
 ghost use Rattle.sct_view.specs.TotalsText.{totals_text_of};
 ghost use Rattle.sct_embed.specs.Asking.{answer_to_question, journal_text, newest_text, watched_after_answer};
-ghost use Rattle.sct_embed.specs.Calls.{cut_above_answer, cut_answer};
+ghost use Rattle.sct_digest.specs.Digests.{digests_text};
+ghost use Rattle.sct_embed.specs.Calls.{cut_above_answer, cut_answer, digest_answer, entries_answer};
 ghost use Rattle.sct_embed.specs.Questions.{Answers, bank_answer, changes_since, closed_answer, contradictions_text_of, kept_answer, messages_answer, report_answer, transfer_answer};
 ghost use Rattle.sct_embed.specs.Reading.{reading_text_of};
 
-use crate::arguments::{transfer_of, vector_of};
+use crate::arguments::{is_text_size, transfer_of, vector_of};
 use crate::changes::{Watch, text_of_changes};
 use crate::embedded_site::EmbeddedSite;
 use crate::faults::EmbedFault;
 use crate::question::Question;
 use crate::reading::read_text;
 use crate::texts::{push_identities, text_of_entries, text_of_messages, text_of_own_entries};
-use sct_delta::read_vector;
-use sct_exchange::{write_cut, write_held};
+use sct_delta::{is_site, read_vector};
+use sct_exchange::{write_cut, write_entries, write_held};
 use sct_keep::split;
 use sct_reconcile::{List, bank_of, day_of, reconcile_alone};
 use std::alloc::AllocError;
@@ -40,6 +41,13 @@ impl EmbeddedSite {
             Question::Vector => Ok(self.vector_text()?),
             Question::Cut(vector) => self.cut(vector),
             Question::CutAbove(counts) => self.cut_above(counts),
+            Question::Entries {
+                origin,
+                above,
+                most,
+            } => self.entries(origin, above, most),
+            Question::Digest { origin, count } => self.digest(origin, count),
+            Question::Digests => Ok(self.digests_text()?),
             Question::Journal(above) => Ok(self.journal_text(above)?),
             Question::Newest(count) => Ok(self.newest_text(count)?),
             Question::Reading(text) => Ok(self.reading_text(text)?),
@@ -130,6 +138,50 @@ impl EmbeddedSite {
     {
         let vector = vector_of(self.alloc, counts)?;
         self.answer = write_cut(self.alloc, &self.core, &vector)?;
+        Ok(())
+    }
+
+    fn entries(&mut self, origin: u16, above: u64, most: u64) -> Result<(), EmbedFault>
+        ensures answer { Answers (entries_answer origin above most self.old.core.arrivals) result self.new.answer }
+        ensures core { self.new.core ≡ self.old.core }
+        ensures watched { self.new.watched ≡ self.old.watched }
+        ensures unchanged { OnErr result (self.new ≡ self.old) }
+    {
+        if !is_site(origin) {
+            return Err(EmbedFault::BadArgument(1));
+        }
+        if !is_text_size(most) {
+            return Err(EmbedFault::BadArgument(3));
+        }
+        self.answer = write_entries(self.alloc, &self.core, origin, above, most)?;
+        Ok(())
+    }
+
+    fn digest(&mut self, origin: u16, count: u64) -> Result<(), EmbedFault>
+        ensures answer { Answers (digest_answer origin count self.old.core.arrivals) result self.new.answer }
+        ensures core { self.new.core ≡ self.old.core }
+        ensures watched { self.new.watched ≡ self.old.watched }
+        ensures unchanged { OnErr result (self.new ≡ self.old) }
+    {
+        if !is_site(origin) {
+            return Err(EmbedFault::BadArgument(1));
+        }
+        let digests = &mut self.showing.digests;
+        let Some(text) = digests.text_at(self.alloc, &self.core, origin, count)? else {
+            return Err(EmbedFault::BadArgument(2));
+        };
+        self.answer = text.into_bytes();
+        Ok(())
+    }
+
+    fn digests_text(&mut self) -> Result<(), AllocError>
+        ensures answer { OnOk result (self.new.answer ≡ digests_text self.old.core.arrivals) }
+        ensures core { self.new.core ≡ self.old.core }
+        ensures watched { self.new.watched ≡ self.old.watched }
+        ensures unchanged { OnErr result (self.new ≡ self.old) }
+    {
+        let text = self.showing.digests.text(self.alloc, &self.core)?;
+        self.answer = text.into_bytes();
         Ok(())
     }
 

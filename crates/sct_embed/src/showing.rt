@@ -1,4 +1,4 @@
-//! A view that follows the arrivals of a site.
+//! What follows the arrivals of a site: a view, and digests.
 
 ghost use Rattle.std.specs.FinSet as set;
 ghost use Rattle.std.specs.Prelude.{◌≡◌, [], None, length, OnErr, OnOk};
@@ -9,13 +9,14 @@ ghost use Rattle.sct_embed.specs.Showing.{IsShowing, watched_by};
 
 use crate::changes::{Watch, watch_after};
 use sct_delta::{Entry, messages_in};
+use sct_digest::Digests;
 use sct_message::Message;
 use sct_set::Archive;
 use sct_view::View;
 use std::alloc::{AllocError, Global};
 use std::sync::Arc;
 
-/// A view of the first arrivals of a site, and what changed since its changes were asked for.
+/// A view of the first arrivals of a site, what changed since its changes were asked for, and digests of its entries.
 #[derive(Drop)]
 pub(crate) struct Showing {
     pub(crate) view: View,
@@ -23,6 +24,8 @@ pub(crate) struct Showing {
     pub(crate) count: usize,
     /// What changed since changes were asked for last; none before the first time.
     pub(crate) watch: Option<Watch>,
+    /// The digests that were worked out.
+    pub(crate) digests: Digests,
 }
 
 // Adds messages to a view of so many arrivals. The view of the first ones is built at once: that takes less than to evaluate a batch.
@@ -48,7 +51,7 @@ fn apply(
 }
 
 impl Showing {
-    /// The view of no arrivals.
+    /// The view of no arrivals. No digest is worked out.
     pub(crate) fn new(alloc: Global) -> Showing
         ensures shown { IsShowing result [] }
         ensures unwatched { result.watch ≡ None }
@@ -57,6 +60,7 @@ impl Showing {
             view: View::new(alloc),
             count: 0,
             watch: None,
+            digests: Digests::new(alloc),
         }
     }
 

@@ -14,7 +14,7 @@ use Rattle.sct_engine.specs.declared.request.Request.{Request}
 use Rattle.sct_engine.specs.declared.request.Request.TheVariants.{Help, Mistake}
 use Rattle.sct_engine.specs.Mistakes.{Wrong, mistake_line, wrong_word}
 use Rattle.sct_engine.specs.declared.mistakes.Argument.TheVariants as argument
-use Rattle.sct_engine.specs.Places.{counts_in, delta, messages, place_named, vector, Wanted}
+use Rattle.sct_engine.specs.Places.{counts_in, delta, digests, messages, place_named, vector, Wanted}
 use Rattle.sct_engine.specs.Request.{exchange, is_mistake, job, order_named, order_of, report, serve, sites, Order}
 
 -- a command that requires one of its subcommands, and has a version
@@ -43,9 +43,13 @@ day_command name = with_rule (new_app name) (wanted_word (codes "DAY"))
 abbrev pub closing_commands : App
 closing_commands = with_subcommand (with_subcommand listing_commands (day_command (codes "keep")).top) (day_command (codes "closed")).top
 
+-- a bank and a day
+abbrev pub listless_report_command : App
+listless_report_command = with_rule (with_rule (new_app (codes "report")) (wanted_word (codes "BANK"))) (wanted_word (codes "DAY"))
+
 -- a bank, a day and a file
 abbrev pub report_command : App
-report_command = with_rule (with_rule (with_rule (new_app (codes "report")) (wanted_word (codes "BANK"))) (wanted_word (codes "DAY"))) (wanted_word (codes "LIST"))
+report_command = with_rule listless_report_command (wanted_word (codes "LIST"))
 
 -- one file or more
 abbrev pub run_command : App
@@ -77,13 +81,20 @@ site_command = files_of_a_site (place_command (codes "site"))
 abbrev pub vector_command : App
 vector_command = files_of_a_site (place_command (codes "vector"))
 
+abbrev pub digests_command : App
+digests_command = files_of_a_site (place_command (codes "digests"))
+
 -- the version vector comes before the files
 abbrev pub cut_command : App
 cut_command = files_of_a_site (with_rule (place_command (codes "cut")) (wanted_word (codes "HAVE")))
 
--- the program with the commands `site`, `vector` and `cut` added
+-- the program with the commands `site` and `vector` added
+abbrev pub holding_commands : App
+holding_commands = with_subcommand (with_subcommand running_commands site_command.top) vector_command.top
+
+-- the program with the commands `digests` and `cut` added
 abbrev pub exchanging_commands : App
-exchanging_commands = with_subcommand (with_subcommand (with_subcommand running_commands site_command.top) vector_command.top) cut_command.top
+exchanging_commands = with_subcommand (with_subcommand holding_commands digests_command.top) cut_command.top
 
 -- a site is served with its journal alone
 abbrev pub serve_command : App
@@ -186,6 +197,11 @@ pub record CommandsAskForTheirOrders : Type 0 where
       (exchange_at vector (codes "1") (codes "8") (codes "site1/journal") (codes "in/2" ∷ []))
   pub vector : (program number group journal : Text)
       → AskFor (program ∷ codes "vector" ∷ codes "--" ∷ number ∷ group ∷ journal ∷ []) (exchange_at vector number group journal [])
+  pub digests_written : (program : Text)
+      → AskFor (program ∷ codes "digests" ∷ codes "1" ∷ codes "8" ∷ codes "site1/journal" ∷ codes "in/2" ∷ [])
+      (exchange_at digests (codes "1") (codes "8") (codes "site1/journal") (codes "in/2" ∷ []))
+  pub digests : (program number group journal one : Text)
+      → AskFor (program ∷ codes "digests" ∷ codes "--" ∷ number ∷ group ∷ journal ∷ one ∷ []) (exchange_at digests number group journal (one ∷ []))
   pub cut : (program number group have journal one : Text)
       → AskFor (program ∷ codes "cut" ∷ codes "--" ∷ number ∷ group ∷ have ∷ journal ∷ one ∷ [])
       (option_and_then (λ counts. exchange_at (delta counts) number group journal (one ∷ [])) (counts_in have))

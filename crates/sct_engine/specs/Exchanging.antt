@@ -2,6 +2,7 @@
 use Rattle.std.specs.Prelude.{ℕ, ◌≡◌, ◌≤◌, ◌+◌, ◌++◌, ◌∷◌, List, [], codes, length, map, Bool, Option}
 use Rattle.sct_delta.specs.DeltaText.{delta_in}
 use Rattle.sct_delta.specs.Entries.{Placed}
+use Rattle.sct_digest.specs.Digests.{digests_text}
 use Rattle.sct_exchange.specs.RefusedFiles.{refused_text}
 use Rattle.sct_exchange.specs.Journals.{core_taking, opened}
 use Rattle.sct_exchange.specs.Rounds.{exchanged, files_in, refused_by, File, Offers}
@@ -12,7 +13,7 @@ use Rattle.sct_message.specs.Sets.{messages_in}
 use Rattle.sct_site.specs.Cores.{is_open}
 use Rattle.sct_streams.specs.Files.{AreGiven, IsGiven}
 use Rattle.sct_engine.specs.Stream.{AreWithin}
-use Rattle.sct_engine.specs.Places.{delta, messages, vector, wanted_of, Wanted}
+use Rattle.sct_engine.specs.Places.{delta, digests, messages, vector, wanted_of, Wanted}
 use Rattle.sct_engine.specs.declared.exchanging.Gathered.{Gathered}
 use Rattle.sct_engine.specs.declared.fault.ProgramFault.{ProgramFault}
 use Rattle.sct_engine.specs.declared.fault.ProgramFault.TheVariants as fault
@@ -24,10 +25,12 @@ use Rattle.sct_engine.specs.declared.places.SiteCommand.{SiteCommand}
 abbrev pub vector_line : List Placed → List ℕ
 vector_line arrivals = held_text arrivals ++ 10 ∷ []
 
--- what is wanted: the archive text of the messages, the version vector on a line, or the delta text above a vector
+-- what is wanted: the archive text of the messages, the version vector on a line, the line of each origin with its digest, or the
+-- delta text above a vector
 abbrev pub wanted_text : Wanted → List Placed → List ℕ
 wanted_text messages arrivals = site_text arrivals
 wanted_text vector arrivals = vector_line arrivals
+wanted_text digests arrivals = digests_text arrivals
 wanted_text (delta have) arrivals = cut_text have arrivals
 
 -- ---- a site that is gathered

@@ -8,16 +8,18 @@ use Rattle.sct_site.specs.Cores.{is_open}
 use Rattle.sct_engine.specs.declared.places.Wanting.{Wanting}
 use Rattle.sct_engine.specs.declared.places.Wanting.TheVariants as wanting
 
--- what is wanted of a site: the messages that it holds, its version vector, or the delta of its entries above a version
--- vector, which has these counts
+-- what is wanted of a site: the messages that it holds, its version vector, the digests of its entries, or the delta of its
+-- entries above a version vector, which has these counts
 pub data Wanted : Type 0 where
   messages : Wanted
   vector : Wanted
+  digests : Wanted
   delta : (ℕ → ℕ) → Wanted
 
 abbrev pub wanted_of : Wanting → Wanted
 wanted_of wanting.Messages = messages
 wanted_of wanting.Vector = vector
+wanted_of wanting.Digests = digests
 wanted_of (wanting.Delta have) = delta (count_in have)
 
 -- a number below 65,536

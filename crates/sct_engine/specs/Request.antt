@@ -9,7 +9,7 @@ use Rattle.sct_engine.specs.declared.jobs.Job.TheVariants.{Status, Archive, Tota
 use Rattle.sct_engine.specs.declared.fault.ProgramFault.{ProgramFault}
 use Rattle.sct_engine.specs.declared.fault.ProgramFault.TheVariants as fault
 use Rattle.sct_engine.specs.Mistakes.{Wrong, mistake_line}
-use Rattle.sct_engine.specs.Places.{Wanted, messages, vector, delta, deltas_ordered, have_ordered, place_ordered, wanted_of}
+use Rattle.sct_engine.specs.Places.{Wanted, messages, vector, digests, delta, deltas_ordered, have_ordered, place_ordered, wanted_of}
 use Rattle.sct_engine.specs.Runs.{are_sites}
 use Rattle.sct_engine.specs.declared.places.ServeCommand.{ServeCommand}
 use Rattle.sct_engine.specs.declared.places.SiteCommand.{SiteCommand}
@@ -104,6 +104,7 @@ order_named name given =
     else if is_text name (codes "closed") then option_map (λ day. job (Closed day)) (day_ordered given)
     else if is_text name (codes "site") then exchange_from messages given
     else if is_text name (codes "vector") then exchange_from vector given
+    else if is_text name (codes "digests") then exchange_from digests given
     else if is_text name (codes "cut") then cut_ordered given
     else if is_text name (codes "serve") then serve_from given
     else option_map (λ work. job work) (job_named name)

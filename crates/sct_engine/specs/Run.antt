@@ -75,22 +75,25 @@ IsPreparedIfAsked gives failed failed_now (Err fault) prepared = (prepared ≡ E
 
 -- a task is performed: a site is served, and each other task is answered. The first six words are of disks: what a file holds,
 -- what a crash may leave of it, whether no read of it was wrong, how many of its calls failed, what the file at a path holds, and how
--- the opening of a path fails.
-abbrev pub IsPerformed : {D : Type 0} → (D → List ℕ) → (D → List ℕ → Type 0) → (D → Bool) → (D → ℕ) → (List ℕ → List ℕ) → (List ℕ → JournalError → Type 0) → Task → Streams → Streams → Result Ending ProgramFault → Type 0
-IsPerformed seen may_leave is_clean faults holds fails (task.serve command) before after ended = IsServed seen may_leave is_clean faults holds fails command before after ended
-IsPerformed seen may_leave is_clean faults holds fails task before after ended = IsAnswered task before after ended
+-- the opening of a path fails. The next two are the disk that is handed back, before and after: a site that is served hands its own
+-- back, and no other task changes it.
+abbrev pub IsPerformed : {D : Type 0} → (D → List ℕ) → (D → List ℕ → Type 0) → (D → Bool) → (D → ℕ) → (List ℕ → List ℕ) → (List ℕ → JournalError → Type 0) → Option D → Option D → Task → Streams → Streams → Result Ending ProgramFault → Type 0
+IsPerformed seen may_leave is_clean faults holds fails left left_now (task.serve command) before after ended =
+    IsServed seen may_leave is_clean faults holds fails left left_now command before after ended
+IsPerformed seen may_leave is_clean faults holds fails left left_now task before after ended = IsAnswered task before after ended × (left_now ≡ left)
 
 -- the answer to that task; files that could not be read end the run at once
-abbrev pub IsAnsweredIfPrepared : {D : Type 0} → (D → List ℕ) → (D → List ℕ → Type 0) → (D → Bool) → (D → ℕ) → (List ℕ → List ℕ) → (List ℕ → JournalError → Type 0) → Result Task ProgramFault → Streams → Streams → Result Ending ProgramFault → Type 0
-IsAnsweredIfPrepared seen may_leave is_clean faults holds fails (Ok task) before after ended = IsPerformed seen may_leave is_clean faults holds fails task before after ended
-IsAnsweredIfPrepared seen may_leave is_clean faults holds fails (Err fault) before after ended = (ended ≡ Err fault) × (after ≡ before)
+abbrev pub IsAnsweredIfPrepared : {D : Type 0} → (D → List ℕ) → (D → List ℕ → Type 0) → (D → Bool) → (D → ℕ) → (List ℕ → List ℕ) → (List ℕ → JournalError → Type 0) → Option D → Option D → Result Task ProgramFault → Streams → Streams → Result Ending ProgramFault → Type 0
+IsAnsweredIfPrepared seen may_leave is_clean faults holds fails left left_now (Ok task) before after ended =
+    IsPerformed seen may_leave is_clean faults holds fails left left_now task before after ended
+IsAnsweredIfPrepared seen may_leave is_clean faults holds fails left left_now (Err fault) before after ended = (ended ≡ Err fault) × (after ≡ before) × (left_now ≡ left)
 
 -- A request is performed: its files are read, and then the task that it is with their bytes is performed. The two numbers are of the
 -- opens and reads of files that failed, before and after.
-pub record IsDoneAsAsked {D : Type 0} (seen : D → List ℕ) (may_leave : D → List ℕ → Type 0) (is_clean : D → Bool) (faults : D → ℕ) (holds : List ℕ → List ℕ) (fails : List ℕ → JournalError → Type 0) (gives : List ℕ → Option (List ℕ)) (failed failed_now : ℕ) (request : Request) (before after : Streams) (ended : Result Ending ProgramFault) : Type 0 where
+pub record IsDoneAsAsked {D : Type 0} (seen : D → List ℕ) (may_leave : D → List ℕ → Type 0) (is_clean : D → Bool) (faults : D → ℕ) (holds : List ℕ → List ℕ) (fails : List ℕ → JournalError → Type 0) (left left_now : Option D) (gives : List ℕ → Option (List ℕ)) (failed failed_now : ℕ) (request : Request) (before after : Streams) (ended : Result Ending ProgramFault) : Type 0 where
   pub prepared : Result Task ProgramFault
   pub is_prepared : IsPrepared gives failed failed_now request prepared
-  pub is_answered : IsAnsweredIfPrepared seen may_leave is_clean faults holds fails prepared before after ended
+  pub is_answered : IsAnsweredIfPrepared seen may_leave is_clean faults holds fails left left_now prepared before after ended
 
 -- the request of the words of a command line, if these could be read
 abbrev pub IsAskedBy : Result (List (List ℕ)) ProgramFault → Result Request ProgramFault → Type 0
@@ -99,24 +102,24 @@ IsAskedBy (Ok words) asked = AreAsking words asked
 
 -- The answer to the words of a command line: that to the task of their request. The two numbers are of the opens and
 -- reads of files that failed, before and after.
-pub record IsAnsweredTo {D : Type 0} (seen : D → List ℕ) (may_leave : D → List ℕ → Type 0) (is_clean : D → Bool) (faults : D → ℕ) (holds : List ℕ → List ℕ) (fails : List ℕ → JournalError → Type 0) (gives : List ℕ → Option (List ℕ)) (failed failed_now : ℕ) (words : Result (List (List ℕ)) ProgramFault) (before after : Streams) (ended : Result Ending ProgramFault) : Type 0 where
+pub record IsAnsweredTo {D : Type 0} (seen : D → List ℕ) (may_leave : D → List ℕ → Type 0) (is_clean : D → Bool) (faults : D → ℕ) (holds : List ℕ → List ℕ) (fails : List ℕ → JournalError → Type 0) (left left_now : Option D) (gives : List ℕ → Option (List ℕ)) (failed failed_now : ℕ) (words : Result (List (List ℕ)) ProgramFault) (before after : Streams) (ended : Result Ending ProgramFault) : Type 0 where
   pub asked : Result Request ProgramFault
   pub prepared : Result Task ProgramFault
   pub is_asked : IsAskedBy words asked
   pub is_prepared : IsPreparedIfAsked gives failed failed_now asked prepared
-  pub is_answered : IsAnsweredIfPrepared seen may_leave is_clean faults holds fails prepared before after ended
+  pub is_answered : IsAnsweredIfPrepared seen may_leave is_clean faults holds fails left left_now prepared before after ended
 
 -- One run. It reads the request of the words and the files that the request names, which have these bytes. It answers
 -- the request, reports its end on standard error, and returns the exit status of its end. A site that is served has its journal
--- on a disk, of which the first six words speak. The two numbers are of the opens and reads of files that failed, before and after.
-pub record IsRun {D : Type 0} (seen : D → List ℕ) (may_leave : D → List ℕ → Type 0) (is_clean : D → Bool) (faults : D → ℕ) (holds : List ℕ → List ℕ) (fails : List ℕ → JournalError → Type 0) (gives : List ℕ → Option (List ℕ)) (failed failed_now : ℕ) (words : Result (List (List ℕ)) ProgramFault) (before after : Streams) (status : ℕ) : Type 0 where
+-- on a disk, of which the first six words speak, and which is handed back in `left_now`. The two numbers are of the opens and reads of files that failed, before and after.
+pub record IsRun {D : Type 0} (seen : D → List ℕ) (may_leave : D → List ℕ → Type 0) (is_clean : D → Bool) (faults : D → ℕ) (holds : List ℕ → List ℕ) (fails : List ℕ → JournalError → Type 0) (left left_now : Option D) (gives : List ℕ → Option (List ℕ)) (failed failed_now : ℕ) (words : Result (List (List ℕ)) ProgramFault) (before after : Streams) (status : ℕ) : Type 0 where
   pub asked : Result Request ProgramFault
   pub prepared : Result Task ProgramFault
   pub answered : Streams
   pub ended : Result Ending ProgramFault
   pub is_asked : IsAskedBy words asked
   pub is_prepared : IsPreparedIfAsked gives failed failed_now asked prepared
-  pub is_answered : IsAnsweredIfPrepared seen may_leave is_clean faults holds fails prepared before answered ended
+  pub is_answered : IsAnsweredIfPrepared seen may_leave is_clean faults holds fails left left_now prepared before answered ended
   pub is_told : IsWrittenOrCutOff answered.err after.err (Some (ending_text_of ended))
   pub others : (after.input ≡ answered.input) × (after.out ≡ answered.out)
   pub status_is : status ≡ exit_status_of ended

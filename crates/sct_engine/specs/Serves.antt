@@ -8,10 +8,10 @@ use Rattle.sct_journal.specs.Kept.{recorded}
 use Rattle.sct_journal.specs.declared.error.JournalError.{JournalError}
 use Rattle.sct_journal.specs.declared.error.JournalError.TheVariants as journal
 use Rattle.sct_journal.specs.declared.front.Front.TheVariants as front
-use Rattle.sct_keeper.specs.Keepers.{header, IsUntouched}
+use Rattle.sct_keeper.specs.Keepers.{header, IsFull, IsUntouched}
 use Rattle.sct_keeper.specs.declared.fault.KeeperError.TheVariants as keeper
-use Rattle.sct_serve.specs.Lives.{output_of, watched_site_kept, LifeLeaves}
-use Rattle.sct_serve.specs.Serving.{failed_reads, failed_writes, EndsLife, HasReadTooLong, IsForeignFault}
+use Rattle.sct_serve.specs.Lives.{output_of, watched_site_kept, LifeLeaves, LifeStops}
+use Rattle.sct_serve.specs.Serving.{failed_reads, failed_writes, AreShort, EndsLife, HasReadShort, HasReadTooLong, IsForeignFault}
 use Rattle.sct_serve.specs.declared.fault.ServeFault.{ServeFault}
 use Rattle.sct_serve.specs.declared.fault.ServeFault.TheVariants as serve
 use Rattle.sct_engine.specs.Fault.{fault_of_journal, fault_of_serve}
@@ -62,23 +62,26 @@ writes_failed (Some reason) = failed_writes reason
 
 -- ---- serving
 
--- The file of the journal was not opened, since that fails. Nothing was read or written.
-pub record NeverBegan (fails : JournalError → Type 0) (input input_now : Input) (out out_now : Output) (ended : Result Ending ProgramFault) : Type 0 where
+-- The file of the journal was not opened, since that fails. Nothing was read or written, and no disk was handed back.
+pub record NeverBegan {D : Type 0} (fails : JournalError → Type 0) (input input_now : Input) (out out_now : Output) (left left_now : Option D) (ended : Result Ending ProgramFault) : Type 0 where
   pub error : JournalError
   pub failed : fails error
   pub unopened : IsUnopened error
   pub ending : ended ≡ Err (fault_of_journal error)
   pub unread : input_now ≡ input
   pub unwritten : out_now ≡ out
+  pub unhanded : left_now ≡ left
 
--- The site lived on a disk, whose file held these bytes when it was opened. If no read of the disk was wrong:
+-- The site lived on a disk, whose file held these bytes when it was opened. The disk is handed back as the life left it. If no
+-- read of it was wrong:
 -- at the end of its requests it has written the first line and the replies to them, as its journal was at the opening;
 -- and however it ended, and whatever a crash leaves, a front of the requests lasts, all that has a reply is in it, and the journal
--- is that of the opening and what the front brought.
+-- is that of the opening and what the front brought. Unless a write failed, no line of the round under way has a reply.
 pub record Lived {D : Type 0} (seen : D → List ℕ) (may_leave : D → List ℕ → Type 0) (is_clean : D → Bool) (faults : D → ℕ)
-    (file : List ℕ) (command : ServeCommand) (input input_now : Input) (out out_now : Output) (ended : Result Ending ProgramFault) : Type 0 where
+    (file : List ℕ) (command : ServeCommand) (input input_now : Input) (out out_now : Output) (left_now : Option D) (ended : Result Ending ProgramFault) : Type 0 where
   pub opened : D
   pub left : D
+  pub handed : left_now ≡ Some left
   pub reason : Option ServeFault
   pub holds : seen opened ≡ file
   pub clean : IsTrue (is_clean opened)
@@ -89,22 +92,28 @@ pub record Lived {D : Type 0} (seen : D → List ℕ) (may_leave : D → List �
   pub read : IfNone reason (IfSome input.left (λ bytes. input_now.left ≡ Some []))
   pub lasts : IsTrue (is_clean left) → (outcome : List ℕ) → may_leave left outcome
       → LifeLeaves (watched_site_kept command.site command.sites (recorded file)) (recorded file) input.left input_now.left out.held out_now.held outcome
+  pub stops : out_now.failures ≡ out.failures → IsTrue (is_clean left)
+      → LifeStops (watched_site_kept command.site command.sites (recorded file)) (recorded file) input.left input_now.left out.held out_now.held (may_leave left)
   pub foreign : IfSome reason (λ e. IsForeignFault e → IsUntouched seen may_leave opened left × (input_now ≡ input) × (out_now ≡ out))
   pub no_journal : reason ≡ Some (serve.Keeper (keeper.Journal journal.NoJournal)) → IsTrue (is_clean left)
       → front_in (header command.site command.sites) file ≡ front.NoJournal
   pub other_site : reason ≡ Some (serve.Keeper (keeper.Journal journal.OtherSite)) → IsTrue (is_clean left)
       → front_in (header command.site command.sites) file ≡ front.OtherSite
   pub no_site : reason ≡ Some (serve.Keeper keeper.BadSite) → is_open command.site command.sites ≡ false
+  pub short : IfNone reason (IfSome input.left AreShort)
+  pub short_before : HasReadShort 1048576 input.left input_now.left
   pub too_long : reason ≡ Some serve.TooLong → HasReadTooLong input.left input_now.left
   pub reads : input_now.failures ≡ input.failures + reads_failed reason
   pub writes : out_now.failures ≡ out.failures + writes_failed reason
   pub disk_failed : reason ≡ Some (serve.Keeper (keeper.Journal journal.Disk)) → MoreFaults (faults opened) (faults left)
+  pub disk_full : reason ≡ Some (serve.Keeper (keeper.Journal journal.Full)) → IsFull seen is_clean left
 
 -- A site was served, from the streams before to the streams after. Its journal is the file at the path of the command: `holds` has
--- what the file at a path holds, and `fails` how its opening fails. Standard error is as it was.
+-- what the file at a path holds, and `fails` how its opening fails. `left_now` is the disk that a life hands back. Standard error is as
+-- it was.
 pub record IsServed {D : Type 0} (seen : D → List ℕ) (may_leave : D → List ℕ → Type 0) (is_clean : D → Bool) (faults : D → ℕ)
-    (holds : List ℕ → List ℕ) (fails : List ℕ → JournalError → Type 0) (command : ServeCommand) (before after : Streams) (ended : Result Ending ProgramFault) : Type 0 where
-  pub life : NeverBegan (fails command.journal.now) before.input after.input before.out after.out ended
-      ⊎ Lived seen may_leave is_clean faults (holds command.journal.now) command before.input after.input before.out after.out ended
+    (holds : List ℕ → List ℕ) (fails : List ℕ → JournalError → Type 0) (left left_now : Option D) (command : ServeCommand) (before after : Streams) (ended : Result Ending ProgramFault) : Type 0 where
+  pub life : NeverBegan (fails command.journal.now) before.input after.input before.out after.out left left_now ended
+      ⊎ Lived seen may_leave is_clean faults (holds command.journal.now) command before.input after.input before.out after.out left_now ended
   pub told : after.err ≡ before.err
   pub ends : IfErr ended EndsServing

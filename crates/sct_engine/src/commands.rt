@@ -2,7 +2,7 @@
 ghost use Rattle.std.specs.Prelude.{◌≡◌, IfOk, false, string_bytes};
 ghost use Rattle.clap.specs.Words.{app_of};
 ghost use Rattle.clap.specs.declared.builder.command.Command.TheViews.{out-Command};
-ghost use Rattle.sct_engine.specs.CommandLine.{closing_commands, command_line, comparing_commands, cut_command, day_command, exchanging_commands, files_of_a_site, listing_commands, place_command, report_command, run_command, running_commands, serve_command, site_command, vector_command, version_line};
+ghost use Rattle.sct_engine.specs.CommandLine.{closing_commands, command_line, comparing_commands, cut_command, day_command, digests_command, exchanging_commands, files_of_a_site, holding_commands, listing_commands, listless_report_command, place_command, report_command, run_command, running_commands, serve_command, site_command, vector_command, version_line};
 
 use clap::{Arg, ArgAction, Command};
 use sct_version::VERSION;
@@ -27,6 +27,28 @@ Exit status:
   3  The program was out of memory
 
 The page docs/users/codes.md and the man page sct_sites(1) explain the numbers on standard error.";
+
+// What the help of a command says of its arguments.
+const BANK: &str = "The BIC of the bank, of 8 or 11 characters";
+
+const DAY: &str = "The settlement day of the list, as 2024-05-02";
+
+const DAY_BEFORE: &str = "The day before which transfers are done, as 2024-05-02";
+
+const LIST: &str = "The path of the bank's list";
+
+const FILE: &str = "The path of a file of messages. There are 1 to 16 of them";
+
+const SITE: &str = "The number of the site, from 1 to SITES";
+
+const SITES: &str = "The number of sites of the group, from 1 to 1024";
+
+const HAVE: &str =
+    "The version vector of the site that the delta is for, as 1:3,2:5, or - for a site without entries";
+
+const JOURNAL: &str = "The path of the site's journal";
+
+const DELTA: &str = "The path of a delta. There may be none";
 
 /// The line that `--version` prints. Error: out of memory.
 pub fn version_line(alloc: Global) -> Result<String, AllocError>
@@ -59,7 +81,7 @@ fn day_command<'a>(alloc: Global, name: &'a str, about: &'a str) -> Result<Comma
     ensures app { IfOk result (λ c. app_of c ≡ day_command name.now) }
     ensures own { IfOk result (λ c. (out-Command c).has_globals ≡ false) }
 {
-    let day = Arg::new(alloc, "DAY").required(true);
+    let day = Arg::new(alloc, "DAY").required(true).help(DAY_BEFORE);
     Command::new(alloc, name).about(about).arg(day)
 }
 
@@ -82,19 +104,26 @@ fn closing_commands<'a>(alloc: Global) -> Result<Command<'a>, AllocError>
         .subcommand(closed)
 }
 
+// The command `report BANK DAY`: its list comes behind.
+fn listless_report_command<'a>(alloc: Global) -> Result<Command<'a>, AllocError>
+    ensures app { IfOk result (λ c. app_of c ≡ listless_report_command) }
+    ensures own { IfOk result (λ c. (out-Command c).has_globals ≡ false) }
+{
+    let bank = Arg::new(alloc, "BANK").required(true).help(BANK);
+    let day = Arg::new(alloc, "DAY").required(true).help(DAY);
+    Command::new(alloc, "report")
+        .about("Compares a bank's list for a settlement day with the messages on standard input")
+        .arg(bank)?
+        .arg(day)
+}
+
 // The command `report BANK DAY LIST`.
 fn report_command<'a>(alloc: Global) -> Result<Command<'a>, AllocError>
     ensures app { IfOk result (λ c. app_of c ≡ report_command) }
     ensures own { IfOk result (λ c. (out-Command c).has_globals ≡ false) }
 {
-    let bank = Arg::new(alloc, "BANK").required(true);
-    let day = Arg::new(alloc, "DAY").required(true);
-    let list = Arg::new(alloc, "LIST").required(true);
-    Command::new(alloc, "report")
-        .about("Compares a bank's list for a settlement day with the messages on standard input")
-        .arg(bank)?
-        .arg(day)?
-        .arg(list)
+    let list = Arg::new(alloc, "LIST").required(true).help(LIST);
+    listless_report_command(alloc)?.arg(list)
 }
 
 // The command `run FILE..`.
@@ -104,7 +133,8 @@ fn run_command<'a>(alloc: Global) -> Result<Command<'a>, AllocError>
 {
     let file = Arg::new(alloc, "FILE")
         .required(true)
-        .action(ArgAction::Append);
+        .action(ArgAction::Append)
+        .help(FILE);
     Command::new(alloc, "run")
         .about(
             "Brings sites to one answer, each filled from a file, and writes the status of each transfer",
@@ -147,8 +177,8 @@ fn place_command<'a>(
     ensures app { IfOk result (λ c. app_of c ≡ place_command name.now) }
     ensures own { IfOk result (λ c. (out-Command c).has_globals ≡ false) }
 {
-    let site = Arg::new(alloc, "SITE").required(true);
-    let sites = Arg::new(alloc, "SITES").required(true);
+    let site = Arg::new(alloc, "SITE").required(true).help(SITE);
+    let sites = Arg::new(alloc, "SITES").required(true).help(SITES);
     Command::new(alloc, name).about(about).arg(site)?.arg(sites)
 }
 
@@ -158,8 +188,10 @@ fn with_files_of_a_site<'a>(alloc: Global, command: Command<'a>) -> Result<Comma
     ensures own { (out-Command command.entry).has_globals ≡ false
         → IfOk result (λ c. (out-Command c).has_globals ≡ false) }
 {
-    let journal = Arg::new(alloc, "JOURNAL").required(true);
-    let delta = Arg::new(alloc, "DELTA").action(ArgAction::Append);
+    let journal = Arg::new(alloc, "JOURNAL").required(true).help(JOURNAL);
+    let delta = Arg::new(alloc, "DELTA")
+        .action(ArgAction::Append)
+        .help(DELTA);
     command.arg(journal)?.arg(delta)
 }
 
@@ -189,12 +221,25 @@ fn vector_command<'a>(alloc: Global) -> Result<Command<'a>, AllocError>
     with_files_of_a_site(alloc, place)
 }
 
+// The command `digests SITE SITES JOURNAL [DELTA]..`.
+fn digests_command<'a>(alloc: Global) -> Result<Command<'a>, AllocError>
+    ensures app { IfOk result (λ c. app_of c ≡ digests_command) }
+    ensures own { IfOk result (λ c. (out-Command c).has_globals ≡ false) }
+{
+    let place = place_command(
+        alloc,
+        "digests",
+        "Writes the digest of the entries of each site that a site holds, of its journal and of the deltas that it was sent",
+    )?;
+    with_files_of_a_site(alloc, place)
+}
+
 // The command `cut SITE SITES HAVE JOURNAL [DELTA]..`.
 fn cut_command<'a>(alloc: Global) -> Result<Command<'a>, AllocError>
     ensures app { IfOk result (λ c. app_of c ≡ cut_command) }
     ensures own { IfOk result (λ c. (out-Command c).has_globals ≡ false) }
 {
-    let have = Arg::new(alloc, "HAVE").required(true);
+    let have = Arg::new(alloc, "HAVE").required(true).help(HAVE);
     let place = place_command(
         alloc,
         "cut",
@@ -203,16 +248,25 @@ fn cut_command<'a>(alloc: Global) -> Result<Command<'a>, AllocError>
     with_files_of_a_site(alloc, place.arg(have)?)
 }
 
-// The program with the commands `site`, `vector` and `cut` added.
-fn exchanging_commands<'a>(alloc: Global) -> Result<Command<'a>, AllocError>
-    ensures { IfOk result (λ c. app_of c ≡ exchanging_commands) }
+// The program with the commands `site` and `vector` added.
+fn holding_commands<'a>(alloc: Global) -> Result<Command<'a>, AllocError>
+    ensures { IfOk result (λ c. app_of c ≡ holding_commands) }
 {
     let site = site_command(alloc)?;
     let vector = vector_command(alloc)?;
-    let cut = cut_command(alloc)?;
     running_commands(alloc)?
         .subcommand(site)?
-        .subcommand(vector)?
+        .subcommand(vector)
+}
+
+// The program with the commands `digests` and `cut` added.
+fn exchanging_commands<'a>(alloc: Global) -> Result<Command<'a>, AllocError>
+    ensures { IfOk result (λ c. app_of c ≡ exchanging_commands) }
+{
+    let digests = digests_command(alloc)?;
+    let cut = cut_command(alloc)?;
+    holding_commands(alloc)?
+        .subcommand(digests)?
         .subcommand(cut)
 }
 
@@ -221,7 +275,7 @@ fn serve_command<'a>(alloc: Global) -> Result<Command<'a>, AllocError>
     ensures app { IfOk result (λ c. app_of c ≡ serve_command) }
     ensures own { IfOk result (λ c. (out-Command c).has_globals ≡ false) }
 {
-    let journal = Arg::new(alloc, "JOURNAL").required(true);
+    let journal = Arg::new(alloc, "JOURNAL").required(true).help(JOURNAL);
     let place = place_command(
         alloc,
         "serve",

@@ -3,6 +3,7 @@ ghost use Rattle.std.specs.Prelude.{◌≡◌, ◌≢◌, ◌∷◌, ◌+◌, Er
 ghost use Rattle.sct_delta.specs.DeltaText.{delta_in};
 ghost use Rattle.sct_delta.specs.Entries.{messages_of};
 ghost use Rattle.sct_delta.specs.Vectors.{count_in};
+ghost use Rattle.sct_digest.specs.Digests.{digests_text};
 ghost use Rattle.sct_exchange.specs.Sites.{cut_text};
 ghost use Rattle.sct_engine.specs.Exchanging.{count_by_exchange, is_possible, text_by_exchange, told_by_exchange, vector_line, wanted_text, AreReadAs, IsGathered, IsReadAs};
 ghost use Rattle.sct_engine.specs.Fault.{failed_reads};
@@ -18,6 +19,7 @@ use crate::files::read_file;
 use crate::jobs::Release;
 use crate::places::{SiteCommand, Wanting};
 use sct_delta::{DeltaFault, Vector};
+use sct_digest::Digests;
 use sct_exchange::{DeltaFile, Exchanged, exchange, write_cut, write_held, write_refused_files};
 use sct_lines::{Intake, Refusals, read_file_lines};
 use sct_message::Message;
@@ -148,6 +150,14 @@ fn vector_line(alloc: Global, core: &SiteCore) -> Result<Vec<u8>, AllocError>
     Ok(text.into_bytes())
 }
 
+// The line of each origin with the digest of what a site holds of it. Error: out of memory.
+fn digests_text(alloc: Global, core: &SiteCore) -> Result<Vec<u8>, AllocError>
+    ensures { IfOk result (λ text. text.items ≡ digests_text core.now.arrivals) }
+{
+    let text = Digests::new(alloc).text(alloc, core)?;
+    Ok(text.into_bytes())
+}
+
 // The delta text of what a site holds above a version vector. Error: out of memory.
 fn delta_text(alloc: Global, core: &SiteCore, have: &Vector) -> Result<Vec<u8>, AllocError>
     ensures { IfOk result (λ text. text.items ≡ cut_text (count_in have.now) core.now.arrivals) }
@@ -171,6 +181,7 @@ fn wanted_pieces<T: Threads + Sync>(
     let text = match wanting {
         Wanting::Messages => return held_pieces(rt, alloc, release, core),
         Wanting::Vector => vector_line(alloc, core)?,
+        Wanting::Digests => digests_text(alloc, core)?,
         Wanting::Delta(have) => delta_text(alloc, core, have)?,
     };
     one_piece(alloc, text)

@@ -19,6 +19,8 @@ pub enum Wanting {
     Messages,
     /// Its version vector.
     Vector,
+    /// The digests of its entries.
+    Digests,
     /// The delta of its entries above a version vector.
     Delta(Vector),
 }

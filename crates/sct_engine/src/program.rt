@@ -106,9 +106,10 @@ fn perform<
     reader: &mut R,
     out: &mut O,
     err: &mut E,
+    left: &mut Option<K::File>,
 ) -> Result<Ending, ProgramFault>
     ensures { IsDoneAsAsked K.File.Disk.seen K.File.Disk.may_leave K.File.Disk.is_clean K.File.Disk.faults
-        (K.holds storage.entry.disks) (K.fails storage.entry.disks) (F.gives storage.entry.files.now)
+        (K.holds storage.entry.disks) (K.fails storage.entry.disks) left.old left.new (F.gives storage.entry.files.now)
         reading.old.failures reading.new.failures request.entry
         (streams (R.state reader.old) (O.state out.old) (E.state err.old))
         (streams (R.state reader.new) (O.state out.new) (E.state err.new))
@@ -134,7 +135,7 @@ fn perform<
             let gathered = gather(rt, alloc, files, reading, command)?;
             perform_exchange(rt, alloc, release, gathered, out, err)
         }
-        Request::Serve(command) => serve_site(alloc, disks, command, reader, out),
+        Request::Serve(command) => serve_site(alloc, disks, command, reader, out, left),
         Request::Help(text) => {
             write_all(out, text.as_bytes())?;
             Ok(Ending::Helped)
@@ -162,9 +163,10 @@ fn answer_words<
     reader: &mut R,
     out: &mut O,
     err: &mut E,
+    left: &mut Option<K::File>,
 ) -> Result<Ending, ProgramFault>
     ensures { IsAnsweredTo K.File.Disk.seen K.File.Disk.may_leave K.File.Disk.is_clean K.File.Disk.faults
-        (K.holds storage.entry.disks) (K.fails storage.entry.disks) (F.gives storage.entry.files.now)
+        (K.holds storage.entry.disks) (K.fails storage.entry.disks) left.old left.new (F.gives storage.entry.files.now)
         reading.old.failures reading.new.failures (words_told words)
         (streams (R.state reader.old) (O.state out.old) (E.state err.old))
         (streams (R.state reader.new) (O.state out.new) (E.state err.new))
@@ -173,7 +175,7 @@ fn answer_words<
     let words = words?;
     let request = read_request(alloc, &words)?;
     perform(
-        rt, alloc, release, storage, reading, request, reader, out, err,
+        rt, alloc, release, storage, reading, request, reader, out, err, left,
     )
 }
 
@@ -181,6 +183,7 @@ fn answer_words<
 /// It reports the end of the run on `err`, and returns the exit status.
 /// The status is 0 if all lines were taken, a site was served to the end of its requests or help was shown, and 1 if some line
 /// was refused. It is 3 for out of memory (65), and 2 for any other fault. `release` says when the memory of a job is given back.
+/// If a site was served, `left` has the disk of its journal then, as its life left it. Otherwise `left` is as it was.
 pub fn run<
     T: Threads + Wait + Sync,
     F: Files,
@@ -199,16 +202,17 @@ pub fn run<
     reader: &mut R,
     out: &mut O,
     err: &mut E,
+    left: &mut Option<K::File>,
 ) -> u8
     ensures { IsRun K.File.Disk.seen K.File.Disk.may_leave K.File.Disk.is_clean K.File.Disk.faults
-        (K.holds storage.entry.disks) (K.fails storage.entry.disks) (F.gives storage.entry.files.now)
+        (K.holds storage.entry.disks) (K.fails storage.entry.disks) left.old left.new (F.gives storage.entry.files.now)
         reading.old.failures reading.new.failures (words_told words)
         (streams (R.state reader.old) (O.state out.old) (E.state err.old))
         (streams (R.state reader.new) (O.state out.new) (E.state err.new))
         result }
 {
     let ended = answer_words(
-        rt, alloc, release, storage, reading, words, reader, out, err,
+        rt, alloc, release, storage, reading, words, reader, out, err, left,
     );
     conclude(&ended, err)
 }
@@ -236,6 +240,7 @@ pub fn run_over_std<
     stdout: (O, Blank),
     stderr: (E, Blank),
     files: Blank,
+    left: &mut Option<K::File>,
 ) -> u8
     requires stdin_name { stdin.1.name ≡ A.name }
     requires stdin_parts { stdin.1.parts ≡ A.parts }
@@ -250,7 +255,7 @@ pub fn run_over_std<
     requires files_parts { files.parts ≡ D.parts }
     requires files_part { files.parts ≡ 1 }
     ensures { (after : Streams) × (failed : ℕ) × IsRun K.File.Disk.seen K.File.Disk.may_leave K.File.Disk.is_clean K.File.Disk.faults
-        (K.holds storage.entry.disks) (K.fails storage.entry.disks) (F.gives storage.entry.files.now) 0 failed (words_told words)
+        (K.holds storage.entry.disks) (K.fails storage.entry.disks) left.old left.new (F.gives storage.entry.files.now) 0 failed (words_told words)
         (streams (record { left = R.remaining stdin.0; failures = 0 }) (record { held = O.contents stdout.0; failures = 0 })
         (record { held = E.contents stderr.0; failures = 0 })) after result }
 {
@@ -268,5 +273,6 @@ pub fn run_over_std<
         &mut reader,
         &mut out,
         &mut err,
+        left,
     )
 }

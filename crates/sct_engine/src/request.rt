@@ -178,6 +178,7 @@ fn request_of_command<'a>(
         },
         "site" => request_on_site(alloc, Wanting::Messages, given),
         "vector" => request_on_site(alloc, Wanting::Vector, given),
+        "digests" => request_on_site(alloc, Wanting::Digests, given),
         "cut" => request_of_cut(alloc, given),
         "serve" => request_to_serve(given),
         _ => match job_named(name) {

@@ -12,6 +12,8 @@ use std::alloc::Global;
 
 /// Opens the journal of a command, and serves its site: each line of the input is a request, and has a reply. The replies of a
 /// round are written after the journal has what they rest on. It ends at the end of the input. A refused request ends nothing.
+/// However the life ends, `left` has the disk then, with the journal as the life leaves it. If the file is not opened, `left` is as
+/// it was.
 ///
 /// Errors:
 /// - `NoJournal` (75) or `OtherSite` (76): the file is not the journal of this site. It is as it was;
@@ -26,17 +28,24 @@ pub fn serve_site<K: Disks, R: Source, O: Sink>(
     command: ServeCommand<'_>,
     reader: &mut R,
     out: &mut O,
+    left: &mut Option<K::File>,
 ) -> Result<Ending, ProgramFault>
     ensures life { NeverBegan (K.fails disks command.entry.journal.now)
-        (R.state reader.old) (R.state reader.new) (O.state out.old) (O.state out.new) result
+        (R.state reader.old) (R.state reader.new) (O.state out.old) (O.state out.new) left.old left.new result
         ⊎ Lived K.File.Disk.seen K.File.Disk.may_leave K.File.Disk.is_clean K.File.Disk.faults
         (K.holds disks command.entry.journal.now) command.entry
-        (R.state reader.old) (R.state reader.new) (O.state out.old) (O.state out.new) result }
+        (R.state reader.old) (R.state reader.new) (O.state out.old) (O.state out.new) left.new result }
     ensures ends { IfErr result EndsServing }
 {
     let disk = disks.open(command.journal)?;
     match serve(alloc, command.site, command.sites, disk, reader, out) {
-        Ok(_) => Ok(Ending::Served),
-        Err((fault, _)) => Err(ProgramFault::from(fault)),
+        Ok(disk) => {
+            *left = Some(disk);
+            Ok(Ending::Served)
+        }
+        Err((fault, disk)) => {
+            *left = Some(disk);
+            Err(ProgramFault::from(fault))
+        }
     }
 }

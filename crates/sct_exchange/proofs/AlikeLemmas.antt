@@ -23,7 +23,7 @@ use Rattle.sct_exchange.specs.Laws.{AreAmong, EqualVectorsHoldAlike, EqualVector
 use Rattle.sct_exchange.specs.Owned.{IsOf, IsTextOf}
 use Rattle.sct_exchange.specs.Rounds.{File, files_in}
 use Rattle.sct_exchange.specs.Ways.{AreAccepted, HasAllItFits, IsAmong, IsExchanged}
-use Rattle.sct_exchange.proofs.HubLemmas.{each_delta, group_of, held_longer, its_message, longer_in, no_other, not_ahead, of_joined, owned_in, run_of, start_of, texts_before, way_of}
+use Rattle.sct_exchange.proofs.HubLemmas.{each_delta, group_of, held_longer, its_message, longer_in, no_other, not_ahead, of_joined, owned_in, run_of, start_of, held_before, way_of}
 use Rattle.sct_exchange.proofs.JournalLemmas.{journal_core}
 use Rattle.sct_exchange.proofs.WayLemmas.{among_map, mapped}
 
@@ -39,7 +39,7 @@ owned_by_one sites [] honest run one = absurd one
 owned_by_one sites (first ∷ runs) honest run one =
     elim one as (λ c. AreOwned (owned_in (first ∷ runs)) (arrivals_of sites run)) [
       | inl is ↦
-          let of : IsOf (owned_in (first ∷ runs)) (core_of sites first) = run_of sites first runs honest.0 (texts_before sites first runs honest) in
+          let of : IsOf (owned_in (first ∷ runs)) (core_of sites first) = run_of sites first runs honest.0 (held_before sites first runs honest) in
           subst (λ (r : Run). AreOwned (owned_in (first ∷ runs)) (arrivals_of sites r)) (sym is) (record { order = of.order; known = of.known })
       | inr older ↦
           let was : AreOwned (owned_in runs) (arrivals_of sites run) = owned_by_one sites runs honest.1 run older in
@@ -155,7 +155,7 @@ all_of_other : (sites : ℕ) (runs : List Run) → IsHonest sites runs → (one 
     → one.site ≡ other.site → one.journal ≡ other.journal → AreAmong one.given other.given → HasAll (arrivals_of sites one) (arrivals_of sites other)
 all_of_other sites runs honest one other first second site journal among =
     let owned : ℕ → List Draft = owned_in (other ∷ runs) in
-    let texts = texts_before sites other runs (second, honest) in
+    let texts = held_before sites other runs (second, honest) in
     let of : IsOf owned (core_of sites other) = run_of sites other runs second texts in
     let start : core_of_journal one.site sites one.journal ≡ core_of_journal other.site sites other.journal = λ i. core_of_journal (site i) sites (journal i) in
     let mine : IsExchanged (files_in one.given) (core_of_journal one.site sites one.journal) (core_of sites one) = way_of sites one runs first in

@@ -21,9 +21,9 @@ use Rattle.sct_site.specs.Cores.{Core, arrivals_joined, core_joined, entries_abo
 use Rattle.sct_site.proofs.ArrivalLemmas.{arrivals-joined}
 use Rattle.sct_site.proofs.HeldLemmas.{among_above, any_kept, held_number, one_of, or_else, told_all, told_never, within}
 use Rattle.sct_site.proofs.SiteLemmas.{has_itself}
-use Rattle.sct_exchange.specs.Hubs.{Run, IsHonestRun, IsHonest, arrivals_of, core_of, journal_at, text_of}
+use Rattle.sct_exchange.specs.Hubs.{Run, IsHeldByRuns, IsHonestRun, IsHonest, IsTextOfRuns, arrivals_of, core_of, journal_at}
 use Rattle.sct_exchange.specs.Journals.{Begins, core_of_journal, own_log}
-use Rattle.sct_exchange.specs.Laws.{IsEarly, HubsNeverFork}
+use Rattle.sct_exchange.specs.Laws.{CutsMayBeGiven, IsEarly, HubsNeverFork}
 use Rattle.sct_exchange.specs.Owned.{IsOf, IsTextOf}
 use Rattle.sct_exchange.specs.Rounds.{File, files_in}
 use Rattle.sct_exchange.specs.Ways.{AreAccepted, IsAmong, IsExchanged}
@@ -187,41 +187,45 @@ pub record IsTextRead (owned : ℕ → List Draft) (sites : ℕ) (text : List �
   pub is : delta_in text ≡ Ok delta
   pub of : IsTextOf owned sites delta
 
-abbrev pub TextsOf : ℕ → List Run → (ℕ → List Draft) → Type 0
-TextsOf sites runs owned = (text : List ℕ) → IsAmong (map (text_of sites) runs) text → IsTextRead owned sites text
+-- each entry that the site of a run holds is one of own logs, of a site of the group
+abbrev pub HeldOf : ℕ → List Run → (ℕ → List Draft) → Type 0
+HeldOf sites runs owned =
+    (run : Run) → IsAmong runs run → (e : Placed) → holds (arrivals_of sites run) e ≡ true → (has_site sites e.origin ≡ true) × (is_held owned e ≡ true)
 
-pub each_delta : (sites : ℕ) (runs : List Run) (owned : ℕ → List Draft) → TextsOf sites runs owned → (texts : List (List ℕ)) → ((text : List ℕ) → IsAmong texts text → IsAmong (map (text_of sites) runs) text)
+pub text_read : (sites : ℕ) (runs : List Run) (owned : ℕ → List Draft) → HeldOf sites runs owned → (text : List ℕ) → IsTextOfRuns sites runs text → IsTextRead owned sites text
+text_read sites runs owned all text of = record {
+  delta = of.delta;
+  is = of.read;
+  of = record {
+    shape = delta_shape text of.delta of.read;
+    inside = λ e among. let by : IsHeldByRuns sites runs e = of.held e among in (all by.run by.among e by.held).0;
+    known = λ e among. let by : IsHeldByRuns sites runs e = of.held e among in (all by.run by.among e by.held).1;
+  };
+}
+
+pub each_delta : (sites : ℕ) (runs : List Run) (owned : ℕ → List Draft) → HeldOf sites runs owned → (texts : List (List ℕ)) → ((text : List ℕ) → IsAmong texts text → IsTextOfRuns sites runs text)
     → (delta : List Placed) → IsAmong (files_in texts) (Ok delta) → IsTextOf owned sites delta
-each_delta sites runs owned all texts written delta among =
+each_delta sites runs owned all texts given delta among =
     let from = among_map delta_in texts (Ok delta) among in
-    let read : IsTextRead owned sites from.0 = all from.0 (written from.0 from.1.0) in
+    let read : IsTextRead owned sites from.0 = text_read sites runs owned all from.0 (given from.0 from.1.0) in
     let same : read.delta ≡ delta = let both : Ok read.delta ≡ Ok delta = sym read.is ∙ sym from.1.1 in cc in
     subst (λ (d : List Placed). IsTextOf owned sites d) same read.of
 
 -- the step for one run
-pub run_of : (sites : ℕ) (run : Run) (runs : List Run) → IsHonestRun sites runs run → TextsOf sites runs (owned_in (run ∷ runs)) → IsOf (owned_in (run ∷ runs)) (core_of sites run)
-run_of sites run runs is texts =
+pub run_of : (sites : ℕ) (run : Run) (runs : List Run) → IsHonestRun sites runs run → HeldOf sites runs (owned_in (run ∷ runs)) → IsOf (owned_in (run ∷ runs)) (core_of sites run)
+run_of sites run runs is all =
     let way : IsExchanged (files_in run.given) (core_of_journal run.site sites run.journal) (core_of sites run) = way_of sites run runs is in
     of_accepted (owned_in (run ∷ runs)) (files_in run.given) sites
-    (each_delta sites runs (owned_in (run ∷ runs)) texts run.given is.given)
+    (each_delta sites runs (owned_in (run ∷ runs)) all run.given is.given)
     way.deltas (core_of_journal run.site sites run.journal) (core_of sites run)
     (ap (λ (c : Core). c.group) (journal_core run.site sites run.journal))
     way.accepted
     (start_of sites run runs is)
 
-texts_longer : (sites : ℕ) (runs : List Run) (owned longer : ℕ → List Draft) → ((o : ℕ) → Begins (owned o) (longer o)) → TextsOf sites runs owned → TextsOf sites runs longer
-texts_longer sites runs owned longer begins texts text written =
-    let was : IsTextRead owned sites text = texts text written in
-    record { delta = was.delta; is = was.is; of = text_longer owned longer begins sites was.delta was.of }
-
--- what a run cuts
-cut_of : (owned : ℕ → List Draft) (sites : ℕ) (run : Run) (runs : List Run) → IsHonestRun sites runs run → IsOf owned (core_of sites run) → (core_of sites run).group ≡ sites
-    → IsTextOf owned sites (entries_above run.have (arrivals_of sites run))
-cut_of owned sites run runs is of same = record {
-  shape = delta_shape (text_of sites run) (entries_above run.have (arrivals_of sites run)) is.written;
-  inside = λ e among. ap (λ (g : ℕ). has_site g e.origin) (sym same) ∙ of.inside e (among_above run.have (arrivals_of sites run) e among);
-  known = λ e among. of.known e (among_above run.have (arrivals_of sites run) e among);
-}
+held_of_longer : (sites : ℕ) (runs : List Run) (owned longer : ℕ → List Draft) → ((o : ℕ) → Begins (owned o) (longer o)) → HeldOf sites runs owned → HeldOf sites runs longer
+held_of_longer sites runs owned longer begins all run among e held =
+    let was : (has_site sites e.origin ≡ true) × (is_held owned e ≡ true) = all run among e held in
+    (was.0, held_longer owned longer begins e was.1)
 
 pub group_along : (files : List File) (deltas : List (List Placed)) (before after : Core) → AreAccepted files before deltas after → after.group ≡ before.group
 group_along files [] before after is = ap (λ (c : Core). c.group) is
@@ -233,27 +237,43 @@ group_of sites run runs is =
     group_along (files_in run.given) way.deltas (core_of_journal run.site sites run.journal) (core_of sites run) way.accepted
     ∙ ap (λ (c : Core). c.group) (journal_core run.site sites run.journal)
 
-texts_in : (sites : ℕ) (runs : List Run) → IsHonest sites runs → TextsOf sites runs (owned_in runs)
-texts_in sites [] honest text written = absurd written
-texts_in sites (run ∷ runs) honest text written =
-    let before : TextsOf sites runs (owned_in (run ∷ runs)) = texts_longer sites runs (owned_in runs) (owned_in (run ∷ runs)) (longer_in sites run runs honest) (texts_in sites runs honest.1) in
-    elim written as (λ c. IsTextRead (owned_in (run ∷ runs)) sites text) [
-      | inl is ↦ record {
-        delta = entries_above run.have (arrivals_of sites run);
-        is = ap delta_in is ∙ honest.0.written;
-        of = cut_of (owned_in (run ∷ runs)) sites run runs honest.0 (run_of sites run runs honest.0 before) (group_of sites run runs honest.0);
-      }
-      | inr older ↦ before text older
+pub held_in : (sites : ℕ) (runs : List Run) → IsHonest sites runs → HeldOf sites runs (owned_in runs)
+held_in sites [] honest run among e held = absurd among
+held_in sites (first ∷ runs) honest run among e held =
+    let before : HeldOf sites runs (owned_in (first ∷ runs)) = held_of_longer sites runs (owned_in runs) (owned_in (first ∷ runs)) (longer_in sites first runs honest) (held_in sites runs honest.1) in
+    elim among as (λ c. (has_site sites e.origin ≡ true) × (is_held (owned_in (first ∷ runs)) e ≡ true)) [
+      | inl is ↦
+          let of : IsOf (owned_in (first ∷ runs)) (core_of sites first) = run_of sites first runs honest.0 before in
+          let here : holds (arrivals_of sites first) e ≡ true = ap (λ (r : Run). holds (arrivals_of sites r) e) (sym is) ∙ held in
+          (ap (λ (g : ℕ). has_site g e.origin) (sym (group_of sites first runs honest.0)) ∙ of.inside e here, of.known e here)
+      | inr older ↦ before run older e held
     ]
 
--- the texts that were there before a run, by the own logs after it
-pub texts_before : (sites : ℕ) (run : Run) (runs : List Run) → IsHonest sites (run ∷ runs) → TextsOf sites runs (owned_in (run ∷ runs))
-texts_before sites run runs honest = texts_longer sites runs (owned_in runs) (owned_in (run ∷ runs)) (longer_in sites run runs honest) (texts_in sites runs honest.1)
+-- what the sites of the runs before hold, by the own logs after a run
+pub held_before : (sites : ℕ) (run : Run) (runs : List Run) → IsHonest sites (run ∷ runs) → HeldOf sites runs (owned_in (run ∷ runs))
+held_before sites run runs honest = held_of_longer sites runs (owned_in runs) (owned_in (run ∷ runs)) (longer_in sites run runs honest) (held_in sites runs honest.1)
+
+pub cut_texts : CutsMayBeGiven
+cut_texts sites [] honest text among = absurd among
+cut_texts sites (run ∷ runs) honest text among = elim among as (λ c. IsTextOfRuns sites (run ∷ runs) text) [
+  | inl is ↦ record {
+    delta = entries_above run.have (arrivals_of sites run);
+    read = ap delta_in is ∙ honest.0.written;
+    held = λ e there. record { run = run; among = inl refl; held = among_above run.have (arrivals_of sites run) e there };
+  }
+  | inr older ↦
+      let was : IsTextOfRuns sites runs text = cut_texts sites runs honest.1 text older in
+      record {
+        delta = was.delta;
+        read = was.read;
+        held = λ e there. let by : IsHeldByRuns sites runs e = was.held e there in record { run = by.run; among = inr by.among; held = by.held };
+      }
+]
 
 pub never_forks : HubsNeverFork
 never_forks sites run runs honest text among =
-    let read : IsTextRead (owned_in (run ∷ runs)) sites text = texts_before sites run runs honest text (honest.0.given text among) in
-    let of : IsOf (owned_in (run ∷ runs)) (core_of sites run) = run_of sites run runs honest.0 (texts_before sites run runs honest) in
+    let read : IsTextRead (owned_in (run ∷ runs)) sites text = text_read sites runs (owned_in (run ∷ runs)) (held_before sites run runs honest) text (honest.0.given text among) in
+    let of : IsOf (owned_in (run ∷ runs)) (core_of sites run) = run_of sites run runs honest.0 (held_before sites run runs honest) in
     record {
       delta = read.delta;
       read = read.is;

@@ -9,7 +9,7 @@ use Rattle.sct_delta.specs.Entries.{Placed, held_from, holds, log_of, messages_o
 use Rattle.sct_delta.specs.declared.fault.DeltaFault.{DeltaFault}
 use Rattle.sct_delta.specs.declared.fault.DeltaFault.TheVariants as fault
 use Rattle.sct_site.specs.Cores.{Core, IsSite, is_open, refusal_by}
-use Rattle.sct_exchange.specs.Hubs.{Run, IsHonest, IsHonestRun, arrivals_of, core_of}
+use Rattle.sct_exchange.specs.Hubs.{Run, IsHonest, IsHonestRun, IsTextOfRuns, arrivals_of, core_of, text_of}
 use Rattle.sct_exchange.specs.Journals.{Begins, core_of_journal, own_log}
 use Rattle.sct_exchange.specs.Rounds.{files_in, numbered_files, refused_by}
 use Rattle.sct_exchange.specs.Sites.{arrivals_after, refused_after, site_after, site_text}
@@ -75,6 +75,11 @@ pub record IsAcceptedOrEarly (core : Core) (text : List ℕ) : Type 0 where
   pub delta : List Placed
   pub read : delta_in text ≡ Ok delta
   pub early : IfSome (refusal_by core delta) IsEarly
+
+-- In an honest hub each text that `cut` wrote in a run is a text of the runs: later runs may be given it.
+abbrev pub CutsMayBeGiven : Type 0
+CutsMayBeGiven = (sites : ℕ) (runs : List Run) → IsHonest sites runs
+    → (text : List ℕ) → IsAmong (map (text_of sites) runs) text → IsTextOfRuns sites runs text
 
 -- In an honest hub no run refuses a text for anything but that its delta is early: never with 42, 43, 44 or 45.
 abbrev pub HubsNeverFork : Type 0

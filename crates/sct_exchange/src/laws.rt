@@ -2,10 +2,11 @@
 //!
 //! A *hub* is a list of runs on several machines. Each run names a site, its journal, and the texts that it is given. It is
 //! *honest* if five things hold of each run. Its site is one of the group, whose size is the same in all runs. Its journal is of
-//! whole lines. The journal begins with that of the site's run before. Each text that it is given is one that `cut` wrote in an
-//! earlier run. The text that it cuts is written whole. The texts may come from any site, in any order, again, or not at all.
+//! whole lines. The journal begins with that of the site's run before. Each text that it is given is a delta text with entries
+//! that sites of earlier runs hold: one that `cut` wrote, or a piece of one. The text that it cuts is written whole. The texts may
+//! come from any site, in any order, again, or not at all.
 
-ghost use Rattle.sct_exchange.specs.Laws.{EqualVectorsHoldAlike, EqualVectorsWriteAlike, HoldsExactly, HubsNeverFork, JournalsMakeLogs, NumbersLast, OrderDoesNotMatter, OwnEntriesGoByTheJournal, RefusalsAreTheLast, RoundsExchange, RunsAgainEndAlike};
+ghost use Rattle.sct_exchange.specs.Laws.{CutsMayBeGiven, EqualVectorsHoldAlike, EqualVectorsWriteAlike, HoldsExactly, HubsNeverFork, JournalsMakeLogs, NumbersLast, OrderDoesNotMatter, OwnEntriesGoByTheJournal, RefusalsAreTheLast, RoundsExchange, RunsAgainEndAlike};
 
 /// A longer journal never changes the number of an earlier message.
 pub fn numbers_last()
@@ -47,6 +48,11 @@ pub fn a_site_holds_exactly_what_it_took_and_accepted()
 /// In an honest hub no run refuses a text for anything but that its delta is early (41): never with 42, 43, 44 or 45.
 pub fn hubs_never_fork()
     ensures { HubsNeverFork }
+{}
+
+/// In an honest hub each text that `cut` wrote in a run has entries that the run's site holds. So later runs may be given it.
+pub fn cuts_may_be_given()
+    ensures { CutsMayBeGiven }
 {}
 
 /// In an honest hub two runs with equal vectors hold the same entries.

@@ -98,14 +98,14 @@ pass_each : (p : Placed → Bool) (es : List Placed) → ((e : Placed) → holds
 pass_each p [] each = refl
 pass_each p (e ∷ es) each = λ i. each e (held_here e es) i && pass_each p es (λ x held. each x (held_later e es x held)) i
 
-site_of_group : (number group o : ℕ) → is_open number group ≡ true → has_site group o ≡ true → is_site o ≡ true
+pub site_of_group : (number group o : ℕ) → is_open number group ≡ true → has_site group o ≡ true → is_site o ≡ true
 site_of_group number group o valid there = grind (arith, nat_tests)
 
 above_rises : (count : ℕ → ℕ) (es : List Placed) → IsStrictlySortedBy entry_order (entries_above count es)
 unfolding entries_above
 above_rises count es = ascending_rises entry_total entry_same (filter (is_above count) es)
 
-cut_shape : (core : Core) → IsSite core → (count : ℕ → ℕ) → IsDelta (entries_above count core.arrivals)
+pub cut_shape : (core : Core) → IsSite core → (count : ℕ → ℕ) → IsDelta (entries_above count core.arrivals)
 cut_shape core site count = record {
   runs = run_above count core.arrivals site.order;
   rises = rises_by_place (entries_above count core.arrivals)
@@ -117,7 +117,7 @@ cut_shape core site count = record {
 
 -- ---- the cut fits a site that has no other message under a number, and has as many entries as the vector counts
 
-within_log : (log : List Draft) (n : ℕ) (m : Draft) → message_at log n ≡ Some m → n ≤ length log
+pub within_log : (log : List Draft) (n : ℕ) (m : Draft) → message_at log n ≡ Some m → n ≤ length log
 within_log log n m is = ltb-false (length log) n (within log n m is)
 
 next_within : (log : List Draft) (k n : ℕ) (m : Draft) → message_at log n ≡ Some m → nat_lt k n ≡ true → nat_lt (length log) (k + 1) ≡ false
@@ -185,7 +185,7 @@ there_too xs ys begins n m is =
     some_there m (message_at ys n)
     (held_longer (λ o. xs) (λ o. ys) (λ o. begins) (record { origin = 0; n = n; message = m }) (ap (is_same_as m) is ∙ message_itself m))
 
-agree_at : (one other : List Draft) → AgreeSoFar one other → (n : ℕ) (m : Draft) → message_at one n ≡ Some m → n ≤ length other → message_at other n ≡ Some m
+pub agree_at : (one other : List Draft) → AgreeSoFar one other → (n : ℕ) (m : Draft) → message_at one n ≡ Some m → n ≤ length other → message_at other n ≡ Some m
 agree_at one other (inl begins) n m is below = there_too one other begins n m is
 agree_at one other (inr begins) n m is below =
     at_number other n (not_0 one n m is) (le-ltb (length other) n below) (message_at other n ≡ Some m)

@@ -5,7 +5,7 @@ use Rattle.std.specs.Cmp.{both_ways}
 use Rattle.std.proofs.lemmas.Option.{same_Some}
 use Rattle.sct_message.specs.declared.draft.Draft.{Draft}
 use Rattle.sct_delta.specs.DeltaText.{written_delta}
-use Rattle.sct_delta.specs.Entries.{Placed, held_from, holds, log_of}
+use Rattle.sct_delta.specs.Entries.{IsArrivals, Placed, held_from, holds, log_of}
 use Rattle.sct_delta.specs.Refusals.{message_at}
 use Rattle.sct_delta.specs.VectorText.{vector_text}
 use Rattle.sct_site.specs.Cores.{Core}
@@ -21,6 +21,7 @@ use Rattle.sct_hub.specs.Laws.{SitesAnswerAlike}
 use Rattle.sct_hub.proofs.AlikeLemmas.{above_alike}
 use Rattle.sct_hub.proofs.AskLemmas.{asked_alike}
 use Rattle.sct_hub.proofs.EmbeddedLemmas.{holds_of, of_site}
+use Rattle.sct_hub.proofs.EqualLemmas.{same_digest, same_digests, same_entries, same_logs}
 
 -- what one site holds another holds too, if it has as many entries of that origin
 held_too : (owned : ℕ → List Draft) (one other : Core) → IsOf owned one → IsOf owned other → (e : Placed) → held_from e.origin one.arrivals ≡ held_from e.origin other.arrivals
@@ -42,19 +43,24 @@ hold_alike owned one other mine theirs same e =
     both_ways _ _ (held_too owned one other mine theirs e (same e.origin)) (held_too owned other one theirs mine e (sym (same e.origin)))
 
 -- sites that hold alike and have equal vectors answer alike
-pub answer_alike : (one other : Core) → HoldAlike one.arrivals other.arrivals → HaveEqualVectors one.arrivals other.arrivals → SitesAnswerAlike one other
-answer_alike one other alike same =
+pub answer_alike : (one other : Core) → IsArrivals one.arrivals → IsArrivals other.arrivals → HoldAlike one.arrivals other.arrivals → HaveEqualVectors one.arrivals other.arrivals → SitesAnswerAlike one other
+answer_alike one other first second alike same =
     let messages = same_messages one.arrivals other.arrivals alike in
+    let logs = same_logs one.arrivals other.arrivals first second alike same in
     record {
       entries = alike;
       messages = messages;
       answers = λ question watched also plain.
           asked_alike (record { core = one; watched = watched }) (record { core = other; watched = also })
-          messages (ap vector_text (λ i o. same o i)) (λ have. ap written_delta (above_alike have one.arrivals other.arrivals alike)) question plain;
+          messages (ap vector_text (λ i o. same o i)) (λ have. ap written_delta (above_alike have one.arrivals other.arrivals alike))
+          (same_entries one.arrivals other.arrivals logs) (same_digest one.arrivals other.arrivals logs)
+          (same_digests one.arrivals other.arrivals logs) question plain;
     }
 
 pub equal_sites_alike : EqualSitesAnswerAlike
 equal_sites_alike sites world hub one other same =
     let holds_in = holds_of sites world hub in
-    answer_alike (world.core one) (world.core other)
-    (hold_alike (own_messages world) (world.core one) (world.core other) (of_site sites world holds_in one) (of_site sites world holds_in other) same) same
+    let mine : IsOf (own_messages world) (world.core one) = of_site sites world holds_in one in
+    let theirs : IsOf (own_messages world) (world.core other) = of_site sites world holds_in other in
+    answer_alike (world.core one) (world.core other) mine.order theirs.order
+    (hold_alike (own_messages world) (world.core one) (world.core other) mine theirs same) same

@@ -8,7 +8,7 @@ use Rattle.std.specs.Option.{is_none}
 use Rattle.std.proofs.lemmas.Bool.{eqb-true, false≢true}
 use Rattle.std.proofs.lemmas.Option.{same_Some}
 use Rattle.sct_message.specs.declared.draft.Draft.{Draft}
-use Rattle.sct_delta.specs.DeltaText.{delta_in}
+use Rattle.sct_delta.specs.DeltaText.{delta_in, written_delta}
 use Rattle.sct_delta.specs.Entries.{IsArrivals, Placed, holds, log_of, same_entry}
 use Rattle.sct_delta.specs.Refusals.{has_site, is_held, is_same_as, message_at}
 use Rattle.sct_delta.proofs.EntryLemmas.{same_number}
@@ -18,7 +18,6 @@ use Rattle.sct_site.proofs.SiteLemmas.{has_itself, site_joined}
 use Rattle.sct_exchange.specs.Journals.{Begins, core_of_journal, core_taking, own_log}
 use Rattle.sct_exchange.specs.Owned.{IsOf, IsTextOf}
 use Rattle.sct_exchange.specs.Rounds.{File, files_in}
-use Rattle.sct_exchange.specs.Sites.{cut_text}
 use Rattle.sct_exchange.specs.Ways.{AreAccepted, IsAmong, IsExchanged}
 use Rattle.sct_exchange.proofs.HubLemmas.{IsTextRead, group_along, held_longer, its_message, of_accepted, of_start, only_early, text_longer}
 use Rattle.sct_exchange.proofs.JournalLemmas.{begins_itself, begins_on, journal_core, journal_site}
@@ -27,9 +26,11 @@ use Rattle.sct_exchange.proofs.WayLemmas.{delta_shape, exchanged_is, texts_are_d
 use Rattle.sct_embed.specs.Restoring.{core_restored, offered}
 use Rattle.sct_requests.specs.Steps.{core_offered}
 use Rattle.sct_hub.specs.Embedded.{AllMayHappen, Event, IsHub, LosesNone, MayHappen, NoneIsLost, World, after, at_first, happens, own_messages, with_at}
-use Rattle.sct_hub.specs.Embedded.Event.{Accept, Cut, Restore, Take, Write}
-use Rattle.sct_hub.specs.Hubs.{IsCutReadBack}
+use Rattle.sct_hub.specs.Embedded.Event.{Accept, Cut, Entries, Restore, Take, Write}
+use Rattle.sct_exchange.specs.Entries.{entries_asked}
+use Rattle.sct_hub.specs.Hubs.{DeltaIsReadBack}
 use Rattle.sct_hub.specs.EmbeddedLaws.{EmbeddedSitesNeverFork, JournalsOnlyGrow, NoNumberIsGivenTwice, OwnMessagesOnlyGrow, WrittenMessagesLast}
+use Rattle.sct_hub.proofs.EntriesLemmas.{asked_held}
 use Rattle.sct_hub.proofs.EmbeddedJournalLemmas.{deltas_add_nothing}
 use Rattle.sct_hub.proofs.EmbeddedTakeLemmas.{IsGrown, grown_taking}
 use Rattle.sct_hub.proofs.AlikeLemmas.{number_along}
@@ -190,31 +191,33 @@ module _ (sites : ℕ) (world : World) (holds_in : Holds sites world) where
 
   -- ---- a cut, if the journal has all own messages
 
-  text_cut : (site : ℕ) (have : ℕ → ℕ) → world.journal site ≡ owned site → IsCutReadBack have (world.core site).arrivals → IsTextRead world.journal sites (cut_text have (world.core site).arrivals)
-  text_cut site have written read =
+  text_written : (site : ℕ) (delta : List Placed) → ((e : Placed) → holds delta e ≡ true → holds (world.core site).arrivals e ≡ true) → world.journal site ≡ owned site → DeltaIsReadBack delta
+      → IsTextRead world.journal sites (written_delta delta)
+  text_written site delta held written read =
       let es : List Placed = (world.core site).arrivals in
       let one : IsOne world.journal sites site (world.core site) = holds_in.each site in
       record {
-        delta = entries_above have es;
+        delta = delta;
         is = read;
         of = record {
-          shape = delta_shape (cut_text have es) (entries_above have es) read;
-          inside = λ e among. ap (λ (g : ℕ). has_site g e.origin) (sym one.group) ∙ one.inside e (among_above have es e among);
-          known = λ e among. elim (one.known e (among_above have es e among)) as (λ c. is_held world.journal e ≡ true) [
+          shape = delta_shape (written_delta delta) delta read;
+          inside = λ e among. ap (λ (g : ℕ). has_site g e.origin) (sym one.group) ∙ one.inside e (held e among);
+          known = λ e among. elim (one.known e (held e among)) as (λ c. is_held world.journal e ≡ true) [
             | inl there ↦ there
             | inr own ↦
                 ap (λ (l : List Draft). is_same_as e.message (message_at l e.n)) (ap world.journal own ∙ written ∙ ap (λ (o : ℕ). log_of o es) (sym own))
-                ∙ held_stands es one.order e (among_above have es e among)
+                ∙ held_stands es one.order e (held e among)
           ];
         };
       }
 
-  comes_cut : (site : ℕ) (have : ℕ → ℕ) → world.journal site ≡ owned site → IsCutReadBack have (world.core site).arrivals → Comes sites world (happens sites world (Cut site have))
-  comes_cut site have written read = record {
+  comes_text : (site : ℕ) (delta : List Placed) → ((e : Placed) → holds delta e ≡ true → holds (world.core site).arrivals e ≡ true) → world.journal site ≡ owned site → DeltaIsReadBack delta
+      → Comes sites world (record { core = world.core; journal = world.journal; cuts = written_delta delta ∷ world.cuts })
+  comes_text site delta held written read = record {
     holds = record {
       each = holds_in.each;
       texts = λ text among. elim among as (λ c. IsTextRead world.journal sites text) [
-        | inl is ↦ subst (λ (t : List ℕ). IsTextRead world.journal sites t) (sym is) (text_cut site have written read)
+        | inl is ↦ subst (λ (t : List ℕ). IsTextRead world.journal sites t) (sym is) (text_written site delta held written read)
         | inr older ↦ holds_in.texts text older
       ];
     };
@@ -322,7 +325,11 @@ comes_by sites world holds (Take site messages) may = come_to sites world holds 
 comes_by sites world holds (Write site) may = comes_written sites world holds site
 comes_by sites world holds (Accept site text) may =
     come_to sites world holds site (core_offered (world.core site) (delta_in text)) (one_offered sites world holds site may.0 text (holds.texts text may.1))
-comes_by sites world holds (Cut site have) may = comes_cut sites world holds site have may.1 may.2
+comes_by sites world holds (Cut site have) may =
+    comes_text sites world holds site (entries_above have (world.core site).arrivals) (among_above have (world.core site).arrivals) may.1 may.2
+comes_by sites world holds (Entries site origin above most) may =
+    comes_text sites world holds site (entries_asked origin above most (world.core site).arrivals)
+    (asked_held origin above most (world.core site).arrivals (holds.each site).order) may.1 may.2
 comes_by sites world holds (Restore site journal text) may = comes_restored sites world holds site may.0 journal text may.1 may.2
 
 comes_after : (sites : ℕ) (events : List Event) (world : World) → Holds sites world → AllMayHappen sites world events → Comes sites world (after sites world events)
@@ -377,6 +384,7 @@ own_by sites world holds (Accept site text) may none at =
     (subst (λ (l : List Draft). Begins (own_messages world site) l) (sym kept) (begins_itself (own_messages world site)))
     (λ o other. begins_itself (own_messages world o)) at
 own_by sites world holds (Cut site have) may none at = begins_itself (own_messages world at)
+own_by sites world holds (Entries site origin above most) may none at = begins_itself (own_messages world at)
 own_by sites world holds (Restore site journal text) may none at =
     at_each world.core site (core_restored site sites journal text) (λ o c. Begins (own_messages world o) (log_of o c.arrivals))
     (subst (λ (l : List Draft). Begins (own_messages world site) l) (sym (by_the_journal site sites journal (offered text) may.0)) none)

@@ -1,79 +1,105 @@
--- A hub of keepers is honest. Proof plumbing.
-use Rattle.std.proofs.Common.{◌≡◌, ◌∙◌, inl, inr, ◌⊎◌, refl, ap, sym, subst, ℕ, true, false, cond, List, [], ◌∷◌, ◌++◌, map, nat_eq, append_assoc}
-use Rattle.std.specs.Prelude.{Ok}
-use Rattle.std.proofs.lemmas.Bool.{eqb-true}
-use Rattle.sct_delta.specs.DeltaText.{delta_in}
-use Rattle.sct_delta.specs.Entries.{Placed}
-use Rattle.sct_site.specs.Cores.{Core}
-use Rattle.sct_exchange.specs.Hubs.{IsHonestRun, Run, journal_at, text_of}
-use Rattle.sct_exchange.specs.Journals.{Begins, opened}
+-- What holds of a hub of keepers at every moment: each entry is its origin's. Proof plumbing.
+use Rattle.std.proofs.Common.{◌≡◌, ◌∙◌, inl, inr, refl, ap, sym, subst, ℕ, Bool, true, false, cond, List, [], ◌∷◌, ◌++◌, nat_eq}
+use Rattle.std.specs.Prelude.{Result, Ok}
+use Rattle.std.proofs.lemmas.Bool.{eqb-true, false≢true}
+use Rattle.sct_delta.specs.DeltaText.{delta_in, written_delta}
+use Rattle.sct_delta.specs.Entries.{Placed, holds}
+use Rattle.sct_delta.proofs.EntryLemmas.{same_number}
+use Rattle.sct_site.specs.Cores.{Core, IsSite, entries_above, is_open}
+use Rattle.sct_site.proofs.HeldLemmas.{among_above}
+use Rattle.sct_exchange.specs.Journals.{opened}
 use Rattle.sct_exchange.specs.Ways.{IsAmong}
-use Rattle.sct_exchange.proofs.JournalLemmas.{begins_itself}
+use Rattle.sct_read_again.specs.ReadAgain.{MessagesAreReadAgain}
 use Rattle.sct_journal.specs.Kept.{AreLines}
 use Rattle.sct_journal.proofs.LineLemmas.{lines_join}
-use Rattle.sct_hub.specs.Hubs.{AllMayHappen, Event, MayBegin, MayHappen, World, after, cut_in, happens, own_journal, run_at, site_in, texts_given, with_lines}
-use Rattle.sct_hub.specs.Hubs.Event.{Cut, Round}
-use Rattle.sct_hub.specs.Laws.{HubsMayGoOn, ImportedHubsMayBegin, KeepersAreHonest, KeepersCutTheText, NewHubsMayBegin}
-use Rattle.sct_requests.specs.Steps.{AreKept, brings, brought, core_after, core_given, is_delta_line, text_in}
-use Rattle.sct_hub.proofs.AlikeLemmas.{above_same, cut_same}
-use Rattle.sct_hub.proofs.OwnLogLemmas.{own_join, own_whole}
-use Rattle.sct_requests.proofs.StepLemmas.{brings_nothing, brought_lines}
+use Rattle.sct_requests.specs.Steps.{AreKept, brings, brought, core_after, core_given, core_kept, is_delta_line, text_in}
+use Rattle.sct_requests.proofs.StepLemmas.{after_brought, brings_nothing, brought_lines, number_after}
+use Rattle.sct_exchange.specs.Entries.{entries_asked}
+use Rattle.sct_hub.specs.Hubs.{AllMayHappen, AreFew, Event, IsHeldInHub, DeltaIsReadBack, IsTextOfHub, MayBegin, MayHappen, World, after, arrivals_in, happens, site_in, texts_given, with_lines, with_written}
+use Rattle.sct_hub.specs.Hubs.Event.{Cut, Entries, Round}
+use Rattle.sct_hub.specs.Laws.{EntriesAreTheirOrigins, HubsMayGoOn, ImportedHubsMayBegin, NewHubsMayBegin, WrittenTextsAreOfTheHub}
+use Rattle.sct_hub.specs.ReadBack.{WritesReadBack}
+use Rattle.sct_hub.proofs.AlikeLemmas.{live_site}
+use Rattle.sct_hub.proofs.EntriesLemmas.{asked_held}
+use Rattle.sct_hub.proofs.ReadBackLemmas.{texts_back}
+use Rattle.sct_hub.proofs.RoundLemmas.{CameByDelta, comes_from, held_then, site_then}
 
 -- ---- lines that brought something
 
-brought_kept : (lines : List (List ℕ)) (core : Core) → AreKept core (brought core lines)
+pub brought_kept : (lines : List (List ℕ)) (core : Core) → AreKept core (brought core lines)
 brought_kept [] core = tt
 brought_kept (line ∷ lines) core = (elim (brings core line) as (λ b. brings core line ≡ b → AreKept core (cond b (line ∷ brought (core_given core line) lines) (brought (core_given core line) lines))) [
   | true ↦ λ some. (some, brought_kept lines (core_given core line))
   | false ↦ λ none. subst (λ (c : Core). AreKept c (brought (core_given core line) lines)) (brings_nothing core line none) (brought_kept lines (core_given core line))
 ]) refl
 
-kept_join : (xs ys : List (List ℕ)) (core : Core) → AreKept core xs → AreKept (core_after core xs) ys → AreKept core (xs ++ ys)
+pub kept_join : (xs ys : List (List ℕ)) (core : Core) → AreKept core xs → AreKept (core_after core xs) ys → AreKept core (xs ++ ys)
 kept_join [] ys core some more = more
 kept_join (x ∷ xs) ys core some more = (some.0, kept_join xs ys (core_given core x) some.1 more)
 
--- ---- the texts of a round's deltas
+-- ---- what stays after an event
 
-abbrev Pool : Type 1
-Pool = List ℕ → Type 0
+in_hub_then : (sites : ℕ) (world : World) (event : Event) (e : Placed) → IsHeldInHub sites world e → IsHeldInHub sites (happens sites world event) e
+in_hub_then sites world event e is = record { site = is.site; opened = is.opened; held = held_then sites world event is.site e is.held }
 
-given_round : (pool : Pool) (lines : List (List ℕ)) (core : Core) → ((line : List ℕ) → IsAmong lines line → is_delta_line line ≡ true → pool (text_in line))
-    → (text : List ℕ) → IsAmong (texts_given (brought core lines)) text → pool text
-given_round pool [] core each text among = absurd among
-given_round pool (line ∷ lines) core each text among =
-    let later : IsAmong (texts_given (brought (core_given core line) lines)) text → pool text =
-    λ others. given_round pool lines (core_given core line) (λ l there. each l (inr there)) text others in
-    (elim (brings core line) as (λ b. IsAmong (texts_given (cond b (line ∷ brought (core_given core line) lines) (brought (core_given core line) lines))) text → pool text) [
-      | true ↦ λ one. (elim (is_delta_line line) as (λ b. is_delta_line line ≡ b → IsAmong (cond b (text_in line ∷ texts_given (brought (core_given core line) lines)) (texts_given (brought (core_given core line) lines))) text → pool text) [
-        | true ↦ λ told here. elim here as (λ c. pool text) [ inl is ↦ subst pool (sym is) (each line (inl refl) told) | inr others ↦ later others ]
-        | false ↦ λ plain others. later others
-      ]) refl one
-      | false ↦ λ others. later others
-    ]) among
+text_then : (sites : ℕ) (world : World) (event : Event) (text : List ℕ) → IsTextOfHub sites world text → IsTextOfHub sites (happens sites world event) text
+text_then sites world event text is = record { delta = is.delta; read = is.read; held = λ e among. in_hub_then sites world event e (is.held e among) }
 
-given_join : (xs ys : List (List ℕ)) (text : List ℕ) → IsAmong (texts_given (xs ++ ys)) text → IsAmong (texts_given xs) text ⊎ IsAmong (texts_given ys) text
-given_join [] ys text among = inr among
-given_join (x ∷ xs) ys text among =
-    (elim (is_delta_line x) as (λ b. IsAmong (cond b (text_in x ∷ texts_given (xs ++ ys)) (texts_given (xs ++ ys))) text → IsAmong (cond b (text_in x ∷ texts_given xs) (texts_given xs)) text ⊎ IsAmong (texts_given ys) text) [
-      | true ↦ λ here. elim here as (λ c. (IsAmong (text_in x ∷ texts_given xs) text) ⊎ IsAmong (texts_given ys) text) [
-        | inl is ↦ inl (inl is)
-        | inr others ↦ elim (given_join xs ys text others) as (λ c. (IsAmong (text_in x ∷ texts_given xs) text) ⊎ IsAmong (texts_given ys) text) [ inl first ↦ inl (inr first) | inr second ↦ inr second ]
-      ]
-      | false ↦ λ others. given_join xs ys text others
-    ]) among
+-- a text that a site of the hub writes of entries that it holds
+text_written : (sites : ℕ) (world : World) (site : ℕ) (delta : List Placed) → is_open site sites ≡ true → DeltaIsReadBack delta
+    → ((e : Placed) → holds delta e ≡ true → holds (arrivals_in sites world site) e ≡ true) → IsTextOfHub sites world (written_delta delta)
+text_written sites world site delta opened read held = record {
+  delta = delta;
+  read = read;
+  held = λ e among. record { site = site; opened = opened; held = held e among };
+}
 
 -- ---- what holds of a hub at every moment
 
 pub holds_first : NewHubsMayBegin
-holds_first sites = record { are = λ site. tt; some = λ site. tt; longer = λ site. begins_itself []; given = λ site text among. absurd among; honest = tt }
+holds_first sites = record {
+  are = λ site. tt;
+  some = λ site. tt;
+  known = λ site e opened held. absurd (false≢true held);
+  texts = λ text among. absurd among;
+}
 
-begins_more : (first whole more : List ℕ) → Begins first whole → Begins first (whole ++ more)
-begins_more first whole more begins = record { rest = begins.rest ++ more; is = ap (λ (l : List ℕ). l ++ more) begins.is ∙ append_assoc first begins.rest more }
-
-module _ (sites : ℕ) (world : World) (holds : MayBegin sites world) where
+module _ (sites : ℕ) (world : World) (begun : MayBegin sites world) where
   module _ (site : ℕ) (lines : List (List ℕ)) (may : MayHappen sites world (Round site lines true)) where
+    abbrev core : Core
+    core = site_in sites world site
+
     abbrev more : List (List ℕ)
-    more = brought (site_in sites world site) lines
+    more = brought core lines
+
+    abbrev now : World
+    now = happens sites world (Round site lines true)
+
+    stays : (at : ℕ) (e : Placed) → holds (arrivals_in sites world at) e ≡ true → holds (arrivals_in sites now at) e ≡ true
+    stays at e held = held_then sites world (Round site lines true) at e held
+
+    core_now : site_in sites now site ≡ core_after core more
+    core_now =
+        site_then sites world site (Round site lines true)
+        ∙ ap (λ (b : Bool). core_after core (cond b lines [])) (same_number site)
+        ∙ sym (after_brought lines core)
+
+    by_delta : (e : Placed) → CameByDelta more e → holds (arrivals_in sites now e.origin) e ≡ true
+    by_delta e came =
+        let text : IsTextOfHub sites world (text_in came.line) = may.2 came.line came.among came.told in
+        let same : came.delta ≡ text.delta = let both : Ok came.delta ≡ Ok text.delta = sym came.read ∙ text.read in cc in
+        let there : IsHeldInHub sites world e = text.held e (ap (λ (d : List Placed). holds d e) (sym same) ∙ came.held) in
+        stays e.origin e (begun.known there.site e there.opened there.held)
+
+    known_here : (e : Placed) → holds (arrivals_in sites now site) e ≡ true → holds (arrivals_in sites now e.origin) e ≡ true
+    known_here e held =
+        elim (comes_from more core (brought_kept lines core) e (ap (λ (c : Core). holds c.arrivals e) (sym core_now) ∙ held)) as (λ c. holds (arrivals_in sites now e.origin) e ≡ true) [
+          | inl old ↦ stays e.origin e (begun.known site e may.0 old)
+          | inr other ↦ elim other as (λ c. holds (arrivals_in sites now e.origin) e ≡ true) [
+            | inl own ↦ ap (λ (o : ℕ). holds (arrivals_in sites now o) e) (own ∙ number_after (world.lines site) (opened site sites)) ∙ held
+            | inr came ↦ by_delta e came
+          ]
+        ]
 
     -- what holds of the lines of a site that holds of them as they were, and as they are with the round
     at_each : (P : ℕ → List (List ℕ) → Type 0) → ((at : ℕ) → P at (world.lines at)) → P site (world.lines site ++ more) → (at : ℕ) → P at (with_lines world.lines site more at)
@@ -82,74 +108,88 @@ module _ (sites : ℕ) (world : World) (holds : MayBegin sites world) where
       | false ↦ λ other. old at
     ]) refl
 
-    holds_round : MayBegin sites (happens sites world (Round site lines true))
+    known_now : (at : ℕ) (e : Placed) → is_open at sites ≡ true → holds (arrivals_in sites now at) e ≡ true → holds (arrivals_in sites now e.origin) e ≡ true
+    known_now at e valid held = (elim (nat_eq site at) as (λ b. nat_eq site at ≡ b → holds (arrivals_in sites now e.origin) e ≡ true) [
+      | true ↦ λ same. known_here e (ap (λ (s : ℕ). holds (arrivals_in sites now s) e) (eqb-true site at same) ∙ held)
+      | false ↦ λ other.
+          stays e.origin e (begun.known at e valid
+          (sym (ap (λ (b : Bool). holds (core_kept at sites (cond b (world.lines at ++ more) (world.lines at))).arrivals e) other) ∙ held))
+    ]) refl
+
+    holds_round : MayBegin sites now
     holds_round = record {
-      are = at_each (λ at ls. AreLines ls) holds.are (lines_join (world.lines site) more (holds.are site) (brought_lines lines (site_in sites world site) may.1));
-      some = at_each (λ at ls. AreKept (opened at sites) ls) holds.some (kept_join (world.lines site) more (opened site sites) (holds.some site) (brought_kept lines (site_in sites world site)));
-      longer = at_each (λ at ls. Begins (journal_at world.runs at) (own_journal ls)) holds.longer
-          (subst (λ (j : List ℕ). Begins (journal_at world.runs site) j) (sym (own_join (world.lines site) more)) (begins_more (journal_at world.runs site) (own_journal (world.lines site)) (own_journal more) (holds.longer site)));
-      given = at_each (λ at ls. (text : List ℕ) → IsAmong (texts_given ls) text → IsAmong (map (text_of sites) world.runs) text) holds.given
-          (λ text among. elim (given_join (world.lines site) more text among) as (λ c. IsAmong (map (text_of sites) world.runs) text) [
-            | inl old ↦ holds.given site text old
-            | inr new ↦ given_round (λ t. IsAmong (map (text_of sites) world.runs) t) lines (site_in sites world site) may.2 text new
-          ]);
-      honest = holds.honest;
+      are = at_each (λ at ls. AreLines ls) begun.are (lines_join (world.lines site) more (begun.are site) (brought_lines lines core may.1));
+      some = at_each (λ at ls. AreKept (opened at sites) ls) begun.some (kept_join (world.lines site) more (opened site sites) (begun.some site) (brought_kept lines core));
+      known = known_now;
+      texts = λ text among. text_then sites world (Round site lines true) text (begun.texts text among);
     }
 
-  module _ (site : ℕ) (have : ℕ → ℕ) (may : MayHappen sites world (Cut site have)) where
-    abbrev run : Run
-    run = run_at site have (world.lines site)
-
-    pub cut_is : cut_in sites world site have ≡ text_of sites run
-    cut_is = cut_same site sites may.0 (world.lines site) (holds.are site) (holds.some site) have
-
-    is_run : IsHonestRun sites world.runs run
-    is_run = record {
-      opened = may.0;
-      whole = own_whole (world.lines site);
-      longer = holds.longer site;
-      given = holds.given site;
-      written =
-          ap delta_in (sym cut_is)
-          ∙ may.1
-          ∙ ap (λ (es : List Placed). Ok es) (above_same site sites may.0 (world.lines site) (holds.are site) (holds.some site) have);
+  -- a text is written
+  module _ (event : Event) (text : List ℕ) (is : happens sites world event ≡ with_written world text) (new : IsTextOfHub sites world text) where
+    holds_text : MayBegin sites (with_written world text)
+    holds_text = record {
+      are = begun.are;
+      some = begun.some;
+      known = begun.known;
+      texts = λ other among. subst (λ (w : World). IsTextOfHub sites w other) is (text_then sites world event other
+          (elim among as (λ c. IsTextOfHub sites world other) [
+            | inl same ↦ subst (IsTextOfHub sites world) (sym same) new
+            | inr old ↦ begun.texts other old
+          ]));
     }
 
-    pub holds_cut : MayBegin sites (happens sites world (Cut site have))
-    holds_cut = record {
-      are = holds.are;
-      some = holds.some;
-      longer = λ at. (elim (nat_eq site at) as (λ b. nat_eq site at ≡ b → Begins (cond b (own_journal (world.lines site)) (journal_at world.runs at)) (own_journal (world.lines at))) [
-        | true ↦ λ same. subst (λ (s : ℕ). Begins (own_journal (world.lines site)) (own_journal (world.lines s))) (eqb-true site at same) (begins_itself (own_journal (world.lines site)))
-        | false ↦ λ other. holds.longer at
-      ]) refl;
-      given = λ at text among. inr (holds.given at text among);
-      honest = (is_run, holds.honest);
-    }
+  pub its_site : (site : ℕ) → is_open site sites ≡ true → IsSite (site_in sites world site)
+  its_site site valid = live_site site sites valid (world.lines site) (begun.are site) (begun.some site)
 
-holds_next : (sites : ℕ) (world : World) → MayBegin sites world → (event : Event) → MayHappen sites world event → MayBegin sites (happens sites world event)
-holds_next sites world holds (Round site lines true) may = holds_round sites world holds site lines may
-holds_next sites world holds (Round site lines false) may = holds
-holds_next sites world holds (Cut site have) may = holds_cut sites world holds site have may
+-- what a site of the hub writes is read back
+pub written_back : MessagesAreReadAgain → (sites : ℕ) (world : World) → MayBegin sites world → (site : ℕ) → is_open site sites ≡ true → AreFew (arrivals_in sites world site)
+    → WritesReadBack (arrivals_in sites world site)
+written_back again sites world begun site valid few = texts_back again site sites (world.lines site) valid (begun.are site) (begun.some site) few
 
-pub holds_after : (sites : ℕ) (events : List Event) (world : World) → MayBegin sites world → AllMayHappen sites world events → MayBegin sites (after sites world events)
-holds_after sites [] world holds may = holds
-holds_after sites (event ∷ events) world holds may = holds_after sites events (happens sites world event) (holds_next sites world holds event may.0) may.1
+holds_next : MessagesAreReadAgain → (sites : ℕ) (world : World) → MayBegin sites world → (event : Event) → MayHappen sites world event → MayBegin sites (happens sites world event)
+holds_next again sites world begun (Round site lines true) may = holds_round sites world begun site lines may
+holds_next again sites world begun (Round site lines false) may = begun
+holds_next again sites world begun (Cut site have) may =
+    holds_text sites world begun (Cut site have) (written_delta (entries_above have (arrivals_in sites world site))) refl
+    (text_written sites world site (entries_above have (arrivals_in sites world site)) may.0 ((written_back again sites world begun site may.0 may.1).cuts have) (among_above have (arrivals_in sites world site)))
+holds_next again sites world begun (Entries site origin above most) may =
+    holds_text sites world begun (Entries site origin above most) (written_delta (entries_asked origin above most (arrivals_in sites world site))) refl
+    (text_written sites world site (entries_asked origin above most (arrivals_in sites world site)) may.0 ((written_back again sites world begun site may.0 may.1).entries origin above most)
+    (asked_held origin above most (arrivals_in sites world site) (its_site sites world begun site may.0).order))
+
+pub holds_after : MessagesAreReadAgain → (sites : ℕ) (events : List Event) (world : World) → MayBegin sites world → AllMayHappen sites world events → MayBegin sites (after sites world events)
+holds_after again sites [] world begun may = begun
+holds_after again sites (event ∷ events) world begun may = holds_after again sites events (happens sites world event) (holds_next again sites world begun event may.0) may.1
+
+none_told : (lines : List (List ℕ)) (line : List ℕ) → IsAmong lines line → is_delta_line line ≡ true → texts_given lines ≡ [] → ⊥
+none_told [] line among told none = among
+none_told (l ∷ lines) line among told none = (elim (is_delta_line l) as (λ b. is_delta_line l ≡ b → cond b (text_in l ∷ texts_given lines) (texts_given lines) ≡ [] → ⊥) [
+  | true ↦ λ here is. cc
+  | false ↦ λ plain is. elim among as (λ c. ⊥) [
+    | inl same ↦ false≢true (sym plain ∙ ap is_delta_line (sym same) ∙ told)
+    | inr later ↦ none_told lines line later told is
+  ]
+]) refl none
 
 pub imported_begin : ImportedHubsMayBegin
 imported_begin sites lines are some none = record {
   are = are;
   some = some;
-  longer = λ site. record { rest = own_journal (lines site); is = refl };
-  given = λ site text among. absurd (subst (λ (l : List (List ℕ)). IsAmong l text) (none site) among);
-  honest = tt;
+  known = λ site e valid held. elim (comes_from (lines site) (opened site sites) (some site) e held) as (λ c. holds (core_kept e.origin sites (lines e.origin)).arrivals e ≡ true) [
+    | inl old ↦ absurd (false≢true old)
+    | inr other ↦ elim other as (λ c. holds (core_kept e.origin sites (lines e.origin)).arrivals e ≡ true) [
+      | inl own ↦ ap (λ (o : ℕ). holds (core_kept o sites (lines o)).arrivals e) own ∙ held
+      | inr came ↦ absurd (none_told (lines site) came.line came.among came.told (none site))
+    ]
+  ];
+  texts = λ text among. absurd among;
 }
 
-pub hubs_go_on : HubsMayGoOn
-hubs_go_on sites world hub = subst (MayBegin sites) (sym hub.led) (holds_after sites hub.events hub.first hub.begins hub.may)
+pub hubs_go_on : MessagesAreReadAgain → HubsMayGoOn
+hubs_go_on again sites world hub = subst (MayBegin sites) (sym hub.led) (holds_after again sites hub.events hub.first hub.begins hub.may)
 
-pub keepers_honest : KeepersAreHonest
-keepers_honest sites world hub = (hubs_go_on sites world hub).honest
+pub their_origins : MessagesAreReadAgain → EntriesAreTheirOrigins
+their_origins again sites world hub = (hubs_go_on again sites world hub).known
 
-pub keepers_cut : KeepersCutTheText
-keepers_cut sites world hub site have cut = sym (cut_is sites world (hubs_go_on sites world hub) site have cut)
+pub of_the_hub : MessagesAreReadAgain → WrittenTextsAreOfTheHub
+of_the_hub again sites world hub = (hubs_go_on again sites world hub).texts

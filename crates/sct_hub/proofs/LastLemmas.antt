@@ -19,6 +19,7 @@ use Rattle.sct_exchange.proofs.JournalLemmas.{begins_itself}
 use Rattle.sct_requests.specs.Steps.{AreKept, brought, core_after, core_given, core_kept, text_in}
 use Rattle.sct_requests.proofs.BringLemmas.{Joins, Takes, brings_how}
 use Rattle.sct_requests.proofs.StepLemmas.{after_brought, after_join, brought_join, grows}
+use Rattle.sct_read_again.specs.ReadAgain.{MessagesAreReadAgain}
 use Rattle.sct_hub.specs.Hubs.{Event, World, after, arrivals_in, happens, site_in}
 use Rattle.sct_hub.specs.Hubs.Event.{Cut, Round}
 use Rattle.sct_hub.specs.Lives.{GoesBy, SitesGoByTheirRounds, given_by, given_in}
@@ -54,9 +55,9 @@ messages_along (line ∷ lines) core some =
     ])
     ∙ union-more (messages_of core.arrivals) (messages_of_line line) (flat_map messages_of_line lines)
 
-pub hold_exactly : KeepersHoldExactly
-hold_exactly sites world hub site =
-    messages_along (world.lines site) (opened site sites) ((hubs_go_on sites world hub).some site)
+pub hold_exactly : MessagesAreReadAgain → KeepersHoldExactly
+hold_exactly again sites world hub site =
+    messages_along (world.lines site) (opened site sites) ((hubs_go_on again sites world hub).some site)
     ∙ union-of_none (contents_of (flat_map messages_of_line (world.lines site)))
 
 -- ---- a restart
@@ -66,60 +67,3 @@ restarts_same number group before lasting file is =
     ap (core_kept number group) is
     ∙ after_join before (brought (core_kept number group before) lasting) (opened number group)
     ∙ after_brought lasting (core_kept number group before)
-
--- ---- nothing is lost
-
-begins_then : (first next last : List Placed) → Begins first next → Begins next last → Begins first last
-begins_then first next last one two = record {
-  rest = one.rest ++ two.rest;
-  is = two.is ∙ ap (λ (l : List Placed). l ++ two.rest) one.is ∙ append_assoc first one.rest two.rest;
-}
-
-pub arrivals_begin : (lines : List (List ℕ)) (core : Core) → Begins core.arrivals (core_after core lines).arrivals
-arrivals_begin [] core = begins_itself core.arrivals
-arrivals_begin (line ∷ lines) core =
-    begins_then core.arrivals (core_given core line).arrivals (core_after (core_given core line) lines).arrivals
-    (record { rest = (grows core line).more; is = ap (λ (c : Core). c.arrivals) (grows core line).is })
-    (arrivals_begin lines (core_given core line))
-
--- ---- a site goes by its own rounds
-
-module _ (sites : ℕ) (world : World) (site : ℕ) where
-  abbrev core : Core
-  core = site_in sites world site
-
-  recorded_then : (event : Event) → (happens sites world event).lines site ≡ world.lines site ++ brought core (given_by site event)
-  recorded_then (Round other lines true) =
-      elim (nat_eq other site) as (λ b. nat_eq other site ≡ b → cond b (world.lines site ++ brought (site_in sites world other) lines) (world.lines site) ≡ world.lines site ++ brought core (cond b lines [])) [
-        | true ↦ λ same. ap (λ (s : ℕ). world.lines site ++ brought (site_in sites world s) lines) (eqb-true other site same)
-        | false ↦ λ differs. sym (append-nil (world.lines site))
-      ] refl
-  recorded_then (Round other lines false) = sym (append-nil (world.lines site))
-  recorded_then (Cut other have) = sym (append-nil (world.lines site))
-
-  pub site_then : (event : Event) → site_in sites (happens sites world event) site ≡ core_after core (given_by site event)
-  site_then event =
-      ap (core_kept site sites) (recorded_then event)
-      ∙ after_join (world.lines site) (brought core (given_by site event)) (opened site sites)
-      ∙ after_brought (given_by site event) core
-
-  goes_on : (event : Event) (lines : List (List ℕ)) (now : World) → GoesBy sites site lines (happens sites world event) now → GoesBy sites site (given_by site event ++ lines) world now
-  goes_on event lines now goes = record {
-    journal =
-        goes.journal
-        ∙ (λ i. recorded_then event i ++ brought (site_then event i) lines)
-        ∙ append_assoc (world.lines site) (brought core (given_by site event)) (brought (core_after core (given_by site event)) lines)
-        ∙ ap (λ (l : List (List ℕ)). world.lines site ++ l) (sym (brought_join (given_by site event) lines core));
-    core = goes.core ∙ ap (λ (c : Core). core_after c lines) (site_then event) ∙ sym (after_join (given_by site event) lines core);
-  }
-
-pub by_rounds : SitesGoByTheirRounds
-by_rounds sites world [] site = record { journal = sym (append-nil (world.lines site)); core = refl }
-by_rounds sites world (event ∷ events) site =
-    goes_on sites world site event (given_in site events) (after sites world (event ∷ events)) (by_rounds sites (happens sites world event) events site)
-
-pub nothing_lost : NothingIsLost
-nothing_lost sites world events site =
-    let begins : Begins (arrivals_in sites world site) (core_after (site_in sites world site) (given_in site events)).arrivals =
-    arrivals_begin (given_in site events) (site_in sites world site) in
-    record { rest = begins.rest; is = ap (λ (c : Core). c.arrivals) (by_rounds sites world events site).core ∙ begins.is }

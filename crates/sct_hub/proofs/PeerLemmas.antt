@@ -3,29 +3,31 @@ use Rattle.std.proofs.Common.{◌≡◌, ◌∙◌, inl, inr, refl, ap, sym, sub
 use Rattle.std.specs.Prelude.{Option, Some, None, Ok}
 use Rattle.std.specs.List.{slice_get}
 use Rattle.std.specs.Option.{is_none}
+use Rattle.std.proofs.lemmas.Bool.Decides.{nat_tests}
 use Rattle.std.proofs.lemmas.Option.{same_Some}
 use Rattle.sct_message.specs.declared.draft.Draft.{Draft}
 use Rattle.sct_delta.specs.DeltaText.{delta_in}
 use Rattle.sct_delta.specs.Entries.{IsArrivals, Placed, held_from, holds, log_of}
-use Rattle.sct_delta.specs.Refusals.{is_held, message_at}
+use Rattle.sct_delta.specs.Refusals.{has_site, is_held, message_at}
 use Rattle.sct_delta.specs.declared.fault.DeltaFault.{DeltaFault}
-use Rattle.sct_delta.proofs.EntryLemmas.{not_zero, same_number}
+use Rattle.sct_delta.proofs.EntryLemmas.{not_zero}
 use Rattle.sct_delta.proofs.LawLemmas.{at_place}
 use Rattle.sct_site.specs.Cores.{Core, IsSite, entries_above, is_open}
 use Rattle.sct_site.proofs.ArrivalLemmas.{length-log}
-use Rattle.sct_site.proofs.HeldLemmas.{held_number}
-use Rattle.sct_exchange.specs.Hubs.{IsHonest, Run, core_of, journal_at}
-use Rattle.sct_exchange.specs.Journals.{Begins, own_log}
-use Rattle.sct_exchange.specs.Owned.{IsOf}
+use Rattle.sct_site.proofs.HeldLemmas.{held_number, held_stands}
+use Rattle.sct_exchange.specs.Journals.{Begins, opened}
+use Rattle.sct_exchange.specs.Laws.{IsAcceptedOrEarly}
+use Rattle.sct_exchange.specs.Owned.{IsOf, IsTextOf}
 use Rattle.sct_exchange.specs.Rounds.{File, core_with, is_accepted}
-use Rattle.sct_exchange.proofs.HubLemmas.{held_longer, its_message, longer_in, owned_in, run_of, texts_before}
-use Rattle.sct_hub.specs.Hubs.{MayBegin, World, arrivals_in, cut_in, happens, own_journal, run_at, site_in}
-use Rattle.sct_hub.specs.Hubs.Event.{Cut}
+use Rattle.sct_exchange.proofs.HubLemmas.{its_message, only_early}
+use Rattle.sct_exchange.proofs.WayLemmas.{delta_shape}
+use Rattle.sct_requests.proofs.StepLemmas.{group_after, number_after}
+use Rattle.sct_read_again.specs.ReadAgain.{MessagesAreReadAgain}
+use Rattle.sct_hub.specs.Hubs.{IsHeldInHub, IsTextOfHub, MayBegin, World, arrivals_in, cut_in, site_in}
+use Rattle.sct_hub.specs.Laws.{KeepersNeverFork, WrittenTextsNeverFork}
 use Rattle.sct_hub.specs.Restored.{AgreeSoFar, ArePeers, CatchesUpBy, HasEachOf, SitesOfAHubArePeers, SitesOfAHubCatchUp}
-use Rattle.sct_hub.proofs.AlikeLemmas.{live_group, live_number, live_site, own_is}
 use Rattle.sct_hub.proofs.CatchUpLemmas.{peers_catch}
-use Rattle.sct_hub.proofs.EqualLemmas.{holds_then, its_run}
-use Rattle.sct_hub.proofs.HonestLemmas.{hubs_go_on}
+use Rattle.sct_hub.proofs.HonestLemmas.{hubs_go_on, its_site, written_back}
 
 -- ---- lists that begin alike
 
@@ -50,7 +52,7 @@ begins_either (x ∷ xs) (y ∷ ys) zs one two =
     ]
 
 -- the log of entries each of which is its origin's message of that number is the front of the origin's log
-log_begins : (owned : ℕ → List Draft) (es : List Placed) → IsArrivals es → ((e : Placed) → holds es e ≡ true → is_held owned e ≡ true) → (o : ℕ) → Begins (log_of o es) (owned o)
+pub log_begins : (owned : ℕ → List Draft) (es : List Placed) → IsArrivals es → ((e : Placed) → holds es e ≡ true → is_held owned e ≡ true) → (o : ℕ) → Begins (log_of o es) (owned o)
 log_begins owned es order known o = begins_by (log_of o es) (owned o) (λ k m is.
     let e : Placed = record { origin = o; n = k + 1; message = m } in
     sym (at_place (owned o) k) ∙ its_message owned e (known e (held_number es order o (k + 1) m (at_place (log_of o es) k ∙ is))))
@@ -58,77 +60,83 @@ log_begins owned es order known o = begins_by (log_of o es) (owned o) (λ k m is
 length_begins : (xs ys : List Draft) → Begins xs ys → length xs ≤ length ys
 length_begins xs ys begins = let size : length ys ≡ length (xs ++ begins.rest) = ap length begins.is in omega (arith, size, length-append xs begins.rest)
 
--- ---- two sites of a hub
+-- ---- the own logs of the sites of a hub
 
-module _ (sites : ℕ) (world : World) (begun : MayBegin sites world) (giver taker : ℕ) (first : is_open giver sites ≡ true) (second : is_open taker sites ≡ true) where
-  abbrev mine : List Placed
-  mine = arrivals_in sites world giver
+pub open_too : (site sites o : ℕ) → is_open site sites ≡ true → has_site sites o ≡ true → is_open o sites ≡ true
+open_too site sites o valid there = grind (arith, nat_tests)
 
-  abbrev theirs : List Placed
-  theirs = arrivals_in sites world taker
+module _ (sites : ℕ) (world : World) (begun : MayBegin sites world) where
+  -- the messages of each origin, as its own site holds them
+  abbrev pub owned : ℕ → List Draft
+  owned o = log_of o (arrivals_in sites world o)
 
-  abbrev giver_run : Run
-  giver_run = run_at giver (λ o. held_from o mine) (world.lines giver)
+  group_is : (site : ℕ) → (site_in sites world site).group ≡ sites
+  group_is site = group_after (world.lines site) (opened site sites)
 
-  abbrev taker_run : Run
-  taker_run = run_at taker (λ o. held_from o theirs) (world.lines taker)
+  number_is : (site : ℕ) → (site_in sites world site).number ≡ site
+  number_is site = number_after (world.lines site) (opened site sites)
 
-  abbrev world_with : World
-  world_with = happens sites world (Cut giver (λ o. held_from o mine))
+  pub inside_here : (site : ℕ) → is_open site sites ≡ true → (e : Placed) → holds (arrivals_in sites world site) e ≡ true → has_site sites e.origin ≡ true
+  inside_here site valid e held = ap (λ (g : ℕ). has_site g e.origin) (sym (group_is site)) ∙ (its_site sites world begun site valid).inside e held
 
-  honest_both : IsHonest sites (taker_run ∷ giver_run ∷ world.runs)
-  honest_both = (holds_then sites world_with (holds_then sites world begun giver first) taker second).honest
+  pub owned_held : (site : ℕ) → is_open site sites ≡ true → (e : Placed) → holds (arrivals_in sites world site) e ≡ true → is_held owned e ≡ true
+  owned_held site valid e held =
+      held_stands (arrivals_in sites world e.origin)
+      (its_site sites world begun e.origin (open_too site sites e.origin valid (inside_here site valid e held))).order e
+      (begun.known site e valid held)
 
-  abbrev owned : ℕ → List Draft
-  owned = owned_in (taker_run ∷ giver_run ∷ world.runs)
+  pub of_site : (site : ℕ) → is_open site sites ≡ true → IsOf owned (site_in sites world site)
+  of_site site valid =
+      let here : IsSite (site_in sites world site) = its_site sites world begun site valid in
+      record {
+        order = here.order;
+        inside = here.inside;
+        known = owned_held site valid;
+        own = ap (λ (n : ℕ). log_of (site_in sites world site).number (arrivals_in sites world n)) (sym (number_is site));
+      }
 
-  giver_site : IsSite (site_in sites world giver)
-  giver_site = live_site giver sites first (world.lines giver) (begun.are giver) (begun.some giver)
-
-  taker_site : IsSite (site_in sites world taker)
-  taker_site = live_site taker sites second (world.lines taker) (begun.are taker) (begun.some taker)
-
-  taker_number : (site_in sites world taker).number ≡ taker
-  taker_number = live_number taker sites second (world.lines taker) (begun.are taker) (begun.some taker)
-
-  giver_of : IsOf (owned_in (giver_run ∷ world.runs)) (core_of sites giver_run)
-  giver_of = run_of sites giver_run world.runs honest_both.1.0 (texts_before sites giver_run world.runs honest_both.1)
-
-  taker_of : IsOf owned (core_of sites taker_run)
-  taker_of = run_of sites taker_run (giver_run ∷ world.runs) honest_both.0 (texts_before sites taker_run (giver_run ∷ world.runs) honest_both)
-
-  giver_known : (e : Placed) → holds mine e ≡ true → is_held owned e ≡ true
-  giver_known e held =
-      held_longer (owned_in (giver_run ∷ world.runs)) owned (longer_in sites taker_run (giver_run ∷ world.runs) honest_both) e
-      (giver_of.known e (sym (its_run sites world begun giver first e) ∙ held))
-
-  taker_known : (e : Placed) → holds theirs e ≡ true → is_held owned e ≡ true
-  taker_known e held = taker_of.known e (sym (its_run sites world begun taker second e) ∙ held)
-
-  taker_own : log_of taker theirs ≡ owned taker
-  taker_own =
-      own_is taker sites second (world.lines taker) (begun.are taker) (begun.some taker)
-      ∙ sym (ap (λ (b : Bool). own_log (cond b (own_journal (world.lines taker)) (journal_at (giver_run ∷ world.runs) taker))) (same_number taker))
-
-  own_most : held_from taker mine ≤ held_from taker theirs
-  own_most =
-      let counted : length (log_of taker mine) ≤ length (owned taker) = length_begins (log_of taker mine) (owned taker) (log_begins owned mine giver_site.order giver_known taker) in
-      let whole : length (log_of taker theirs) ≡ length (owned taker) = ap length taker_own in
-      omega (arith, counted, whole, length-log taker mine, length-log taker theirs)
-
-  peers_here : ArePeers (site_in sites world giver) (site_in sites world taker)
-  peers_here = record {
-    giver_is = giver_site;
-    taker_is = taker_site;
-    group =
-        live_group giver sites first (world.lines giver) (begun.are giver) (begun.some giver)
-        ∙ sym (live_group taker sites second (world.lines taker) (begun.are taker) (begun.some taker));
-    agree = λ o. begins_either (log_of o mine) (log_of o theirs) (owned o) (log_begins owned mine giver_site.order giver_known o) (log_begins owned theirs taker_site.order taker_known o);
-    own = subst (λ (n : ℕ). held_from n mine ≤ held_from n theirs) (sym taker_number) own_most;
+  pub text_is : (text : List ℕ) → (of : IsTextOfHub sites world text) → IsTextOf owned sites of.delta
+  text_is text of = record {
+    shape = delta_shape text of.delta of.read;
+    inside = λ e among. let there : IsHeldInHub sites world e = of.held e among in inside_here there.site there.opened e there.held;
+    known = λ e among. let there : IsHeldInHub sites world e = of.held e among in owned_held there.site there.opened e there.held;
   }
 
-pub hub_peers : SitesOfAHubArePeers
-hub_peers sites world hub giver taker first second = peers_here sites world (hubs_go_on sites world hub) giver taker first second
+  pub never_fork : (site : ℕ) → is_open site sites ≡ true → (text : List ℕ) → IsTextOfHub sites world text → IsAcceptedOrEarly (site_in sites world site) text
+  never_fork site valid text of = record {
+    delta = of.delta;
+    read = of.read;
+    early = only_early owned (site_in sites world site) (of_site site valid) of.delta
+        (subst (λ (g : ℕ). IsTextOf owned g of.delta) (sym (group_is site)) (text_is text of));
+  }
+
+  pub begins_owned : (site : ℕ) → is_open site sites ≡ true → (o : ℕ) → Begins (log_of o (arrivals_in sites world site)) (owned o)
+  begins_owned site valid o =
+      log_begins owned (arrivals_in sites world site) (its_site sites world begun site valid).order (owned_held site valid) o
+
+  -- the site of an origin holds most of it
+  pub own_most : (site o : ℕ) → is_open site sites ≡ true → held_from o (arrivals_in sites world site) ≤ held_from o (arrivals_in sites world o)
+  own_most site o valid =
+      let counted : length (log_of o (arrivals_in sites world site)) ≤ length (owned o) = length_begins (log_of o (arrivals_in sites world site)) (owned o) (begins_owned site valid o) in
+      omega (arith, counted, length-log o (arrivals_in sites world site), length-log o (arrivals_in sites world o))
+
+  pub peers_here : (giver taker : ℕ) → is_open giver sites ≡ true → is_open taker sites ≡ true → ArePeers (site_in sites world giver) (site_in sites world taker)
+  peers_here giver taker first second = record {
+    giver_is = its_site sites world begun giver first;
+    taker_is = its_site sites world begun taker second;
+    group = group_is giver ∙ sym (group_is taker);
+    agree = λ o. begins_either (log_of o (arrivals_in sites world giver)) (log_of o (arrivals_in sites world taker)) (owned o) (begins_owned giver first o) (begins_owned taker second o);
+    own = subst (λ (n : ℕ). held_from n (arrivals_in sites world giver) ≤ held_from n (arrivals_in sites world taker)) (sym (number_is taker)) (own_most giver taker first);
+  }
+
+pub keepers_never_fork : MessagesAreReadAgain → KeepersNeverFork
+keepers_never_fork again sites world hub site valid text of = never_fork sites world (hubs_go_on again sites world hub) site valid text of
+
+pub written_never_fork : MessagesAreReadAgain → WrittenTextsNeverFork
+written_never_fork again sites world hub site valid text among = keepers_never_fork again sites world hub site valid text ((hubs_go_on again sites world hub).texts text among)
+
+pub hub_peers : MessagesAreReadAgain → SitesOfAHubArePeers
+hub_peers again sites world hub giver taker first second = peers_here sites world (hubs_go_on again sites world hub) giver taker first second
 
 by_text : (giver taker : Core) (file : File) (delta : List Placed) → file ≡ Ok delta → CatchesUpBy giver taker delta
     → (is_accepted taker file ≡ true) × HasEachOf giver.arrivals (core_with taker file).arrivals
@@ -137,8 +145,9 @@ by_text giver taker file delta read catches = (
   subst (λ (f : File). HasEachOf giver.arrivals (core_with taker f).arrivals) (sym read) catches.has,
 )
 
-pub hub_catches : SitesOfAHubCatchUp
-hub_catches sites world hub giver taker first second have most read =
+pub hub_catches : MessagesAreReadAgain → SitesOfAHubCatchUp
+hub_catches again sites world hub giver taker first second have most few =
+    let read = (written_back again sites world (hubs_go_on again sites world hub) giver first few).cuts have in
     let both = by_text (site_in sites world giver) (site_in sites world taker) (delta_in (cut_in sites world giver have)) (entries_above have (arrivals_in sites world giver)) read
-    (peers_catch (site_in sites world giver) (site_in sites world taker) have (hub_peers sites world hub giver taker first second) most) in
+    (peers_catch (site_in sites world giver) (site_in sites world taker) have (hub_peers again sites world hub giver taker first second) most) in
     record { accepted = both.0; has = both.1 }

@@ -151,7 +151,7 @@ module _ (core : Core) (site : IsSite core) (journal text : List ℕ) (log : own
     group = sym again_group;
     entries = hold_alike;
     vectors = equal_vectors;
-    answers = answer_alike core again hold_alike equal_vectors;
+    answers = answer_alike core again site.order again_site.order hold_alike equal_vectors;
   }
 
   pub none_refused : refused_after number group journal (text ∷ []) ≡ []

@@ -17,14 +17,15 @@ use Rattle.sct_exchange.specs.Sites.{cut_text}
 use Rattle.sct_exchange.specs.Ways.{IsAmong}
 use Rattle.sct_embed.specs.Restoring.{core_restored}
 use Rattle.sct_requests.specs.Steps.{core_offered}
-use Rattle.sct_hub.specs.Hubs.{IsCutReadBack}
+use Rattle.sct_exchange.specs.Entries.{entries_asked, entries_text}
+use Rattle.sct_hub.specs.Hubs.{IsCutReadBack, DeltaIsReadBack}
 
 pub record World : Type 0 where
   -- the site of each number, as it is in its program
   pub core : ℕ → Core
   -- the own messages of each site that its journal has, on the disk, in the order of their numbers
   pub journal : ℕ → List Draft
-  -- the delta texts that were cut, from the newest to the oldest
+  -- the delta texts that were written, from the newest to the oldest
   pub cuts : List (List ℕ)
 
 pub data Event : Type 0 where
@@ -36,6 +37,8 @@ pub data Event : Type 0 where
   Accept : (site : ℕ) (text : List ℕ) → Event
   -- a site cuts the delta text for a site with this vector
   Cut : (site : ℕ) (have : ℕ → ℕ) → Event
+  -- a site writes its entries of an origin above a count, in a text of at most so many bytes
+  Entries : (site origin above most : ℕ) → Event
   -- a program stopped, and its site is restored from the bytes of the journal and a delta text, or the empty text
   Restore : (site : ℕ) (journal text : List ℕ) → Event
 
@@ -76,6 +79,12 @@ happens sites world (Cut site have) =
       journal = world.journal;
       cuts = cut_text have (world.core site).arrivals ∷ world.cuts;
     }
+happens sites world (Entries site origin above most) =
+    record {
+      core = world.core;
+      journal = world.journal;
+      cuts = entries_text origin above most (world.core site).arrivals ∷ world.cuts;
+    }
 happens sites world (Restore site journal text) =
     record {
       core = with_at world.core site (core_restored site sites journal text);
@@ -93,6 +102,9 @@ MayHappen sites world (Accept site text) = (is_open site sites ≡ true) × IsAm
 MayHappen sites world (Cut site have) =
     (is_open site sites ≡ true) × (world.journal site ≡ own_messages world site)
     × IsCutReadBack have (world.core site).arrivals
+MayHappen sites world (Entries site origin above most) =
+    (is_open site sites ≡ true) × (world.journal site ≡ own_messages world site)
+    × DeltaIsReadBack (entries_asked origin above most (world.core site).arrivals)
 MayHappen sites world (Restore site journal text) =
     (is_open site sites ≡ true) × Begins (world.journal site) (own_log journal)
     × ((text ≡ []) ⊎ IsAmong world.cuts text)
@@ -112,6 +124,7 @@ LosesNone world (Take site messages) = Unit {0}
 LosesNone world (Write site) = Unit {0}
 LosesNone world (Accept site text) = Unit {0}
 LosesNone world (Cut site have) = Unit {0}
+LosesNone world (Entries site origin above most) = Unit {0}
 LosesNone world (Restore site journal text) = Begins (own_messages world site) (own_log journal)
 
 abbrev pub NoneIsLost : ℕ → World → List Event → Type 0

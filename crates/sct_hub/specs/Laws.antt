@@ -10,7 +10,7 @@ use Rattle.sct_delta.specs.DeltaText.{delta_in}
 use Rattle.sct_delta.specs.Entries.{holds, messages_of}
 use Rattle.sct_site.specs.Cores.{Core, is_open}
 use Rattle.sct_site.specs.declared.answers.Took.TheVariants as took
-use Rattle.sct_exchange.specs.Hubs.{IsHonest, text_of}
+use Rattle.sct_exchange.specs.Hubs.{IsHonest, IsTextOfRuns, Run, journal_at, text_of}
 use Rattle.sct_exchange.specs.Journals.{Begins, opened, own_log}
 use Rattle.sct_exchange.specs.Laws.{HaveEqualVectors, HoldAlike, IsAcceptedOrEarly}
 use Rattle.sct_exchange.specs.Rounds.{File}
@@ -20,8 +20,8 @@ use Rattle.sct_requests.specs.Questions.{answer_asked}
 use Rattle.sct_requests.specs.Steps.{AreKept, answer_to, brought, core_after, core_given, core_kept, is_delta_line, text_in}
 use Rattle.sct_requests.specs.declared.steps.Reply.{Reply}
 use Rattle.sct_requests.specs.declared.steps.Reply.TheVariants as answer
-use Rattle.sct_hub.specs.Hubs.{Event, IsHub, MayBegin, MayHappen, World, after, arrivals_in, at_first, cut_in, own_journal, run_at, site_in, texts_given}
-use Rattle.sct_hub.specs.Hubs.Event.{Cut, Round}
+use Rattle.sct_hub.specs.Hubs.{AreTheirOrigins, Event, IsHub, IsTextOfHub, MayBegin, World, after, arrivals_in, at_first, own_journal, site_in, texts_given}
+use Rattle.sct_hub.specs.Hubs.Event.{Round}
 
 -- ---- where a hub may begin
 
@@ -29,35 +29,51 @@ use Rattle.sct_hub.specs.Hubs.Event.{Cut, Round}
 abbrev pub NewHubsMayBegin : Type 0
 NewHubsMayBegin = (sites : ℕ) → MayBegin sites at_first
 
--- journals of messages alone, each of them new, of which no delta was cut
+-- journals of messages alone, each of them new
 abbrev pub ImportedHubsMayBegin : Type 0
 ImportedHubsMayBegin =
     (sites : ℕ) (lines : ℕ → List (List ℕ)) → ((site : ℕ) → AreLines (lines site))
     → ((site : ℕ) → AreKept (opened site sites) (lines site)) → ((site : ℕ) → texts_given (lines site) ≡ [])
-    → MayBegin sites (record { lines = lines; runs = [] })
+    → MayBegin sites (record { lines = lines; texts = [] })
+
+-- journals that go on those of honest runs of the commands, with the texts that those cut: each delta in a journal has only
+-- entries that a site of the runs holds
+abbrev pub HonestHubsMayBegin : Type 0
+HonestHubsMayBegin =
+    (sites : ℕ) (lines : ℕ → List (List ℕ)) (runs : List Run) → IsHonest sites runs
+    → ((site : ℕ) → AreLines (lines site)) → ((site : ℕ) → AreKept (opened site sites) (lines site))
+    → ((site : ℕ) → Begins (journal_at runs site) (own_journal (lines site)))
+    → ((site : ℕ) (text : List ℕ) → IsAmong (texts_given (lines site)) text → IsTextOfRuns sites runs text)
+    → MayBegin sites (record { lines = lines; texts = map (text_of sites) runs })
 
 -- a hub may begin again where another ended
 abbrev pub HubsMayGoOn : Type 0
 HubsMayGoOn = (sites : ℕ) (world : World) → IsHub sites world → MayBegin sites world
 
--- ---- honesty
+-- ---- entries and texts
 
--- The runs of a hub of keepers are honest, whatever happens.
-abbrev pub KeepersAreHonest : Type 0
-KeepersAreHonest = (sites : ℕ) (world : World) → IsHub sites world → IsHonest sites world.runs
+-- In a hub each entry that a site holds is its origin's: the site of the origin holds it, under that number. So no number
+-- has two messages.
+abbrev pub EntriesAreTheirOrigins : Type 0
+EntriesAreTheirOrigins = (sites : ℕ) (world : World) → IsHub sites world → AreTheirOrigins sites world
 
--- The text of such a run is the one that the keeper cuts.
-abbrev pub KeepersCutTheText : Type 0
-KeepersCutTheText =
-    (sites : ℕ) (world : World) → IsHub sites world → (site : ℕ) (have : ℕ → ℕ)
-    → MayHappen sites world (Cut site have)
-    → text_of sites (run_at site have (world.lines site)) ≡ cut_in sites world site have
+-- Each text that was written in a hub is a text of the hub, from then on. So it may be given to any site, at any time.
+abbrev pub WrittenTextsAreOfTheHub : Type 0
+WrittenTextsAreOfTheHub =
+    (sites : ℕ) (world : World) → IsHub sites world → (text : List ℕ) → IsAmong world.texts text
+    → IsTextOfHub sites world text
 
--- A keeper refuses a delta of its hub only because it is early: never with 42, 43, 44 or 45.
+-- A keeper refuses a text of its hub only because it is early: never with 42, 43, 44 or 45.
 abbrev pub KeepersNeverFork : Type 0
 KeepersNeverFork =
     (sites : ℕ) (world : World) → IsHub sites world → (site : ℕ) → is_open site sites ≡ true
-    → (text : List ℕ) → IsAmong (map (text_of sites) world.runs) text → IsAcceptedOrEarly (site_in sites world site) text
+    → (text : List ℕ) → IsTextOfHub sites world text → IsAcceptedOrEarly (site_in sites world site) text
+
+-- So it is with each text that a keeper of the hub wrote.
+abbrev pub WrittenTextsNeverFork : Type 0
+WrittenTextsNeverFork =
+    (sites : ℕ) (world : World) → IsHub sites world → (site : ℕ) → is_open site sites ≡ true
+    → (text : List ℕ) → IsAmong world.texts text → IsAcceptedOrEarly (site_in sites world site) text
 
 -- ---- what sites answer
 

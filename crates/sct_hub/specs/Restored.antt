@@ -14,7 +14,7 @@ use Rattle.sct_exchange.specs.Rounds.{core_with, is_accepted}
 use Rattle.sct_exchange.specs.Sites.{arrivals_after, refused_after, site_after}
 use Rattle.sct_embed.specs.Asking.{lines_of_entries, own_above}
 use Rattle.sct_embed.specs.Restoring.{core_restored, offered, restored_text}
-use Rattle.sct_hub.specs.Hubs.{IsCutReadBack, IsHub, World, arrivals_in, cut_in, site_in}
+use Rattle.sct_hub.specs.Hubs.{AreFew, IsHub, World, arrivals_in, cut_in, site_in}
 use Rattle.sct_hub.specs.Laws.{SitesAnswerAlike}
 
 -- ---- a site that is made anew
@@ -97,13 +97,13 @@ pub record CatchesUpByText (giver taker : Core) (text : List ℕ) : Type 0 where
   pub accepted : is_accepted taker (delta_in text) ≡ true
   pub has : HasEachOf giver.arrivals (core_with taker (delta_in text)).arrivals
 
--- A site of a hub catches up by the text that another cuts above a vector that is at most its own, if the text is read back.
+-- A site of a hub catches up by the text that another cuts above a vector that is at most its own.
 abbrev pub SitesOfAHubCatchUp : Type 0
 SitesOfAHubCatchUp =
     (sites : ℕ) (world : World) → IsHub sites world → (giver taker : ℕ)
     → is_open giver sites ≡ true → is_open taker sites ≡ true
     → (have : ℕ → ℕ) → IsAtMost have (arrivals_in sites world taker)
-    → IsCutReadBack have (arrivals_in sites world giver)
+    → AreFew (arrivals_in sites world giver)
     → CatchesUpByText (site_in sites world giver) (site_in sites world taker) (cut_in sites world giver have)
 
 -- ---- the journal text

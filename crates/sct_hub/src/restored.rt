@@ -2,6 +2,8 @@
 
 ghost use Rattle.sct_hub.specs.Restored.{JournalsGrowWithTheirSites, OneCutIsEnough, PeersCatchUp, SitesAreRestored, SitesOfAHubArePeers, SitesOfAHubCatchUp};
 
+use sct_read_again::messages_are_read_again;
+
 /// A site that is restored from its own journal and one cut of everything is the site that it was. Only the order in which
 /// its entries came may differ. The cut is not refused.
 pub fn sites_are_restored()
@@ -23,7 +25,9 @@ pub fn peers_catch_up()
 pub fn sites_of_a_hub_catch_up()
     ensures peers { SitesOfAHubArePeers }
     ensures texts { SitesOfAHubCatchUp }
-{}
+{
+    messages_are_read_again();
+}
 
 /// A journal grows with its site by the lines of the own entries that it lacks.
 pub fn journals_grow_with_their_sites()

@@ -2,21 +2,28 @@
 
 ghost use Rattle.std.specs.Prelude.{◌≡◌, ◌⊎◌, List, ℕ, IsTrue, IfErr, IfOk};
 ghost use Rattle.sqlite_disk.specs.Disk.{Only};
+ghost use Rattle.sct_journal.specs.Hosts.{error_of_open};
 ghost use Rattle.sct_journal.specs.declared.error.JournalError.{JournalError};
 ghost use Rattle.sct_journal.specs.declared.error.JournalError.TheVariants as error;
+ghost use Rattle.sqlite_std_file.specs.declared.pair.OpenError.{OpenError};
 
 use crate::error::JournalError;
 use sqlite_disk::{Disk, Files, Start};
 use sqlite_std_file::{FileFrom, OpenError};
 use std::io;
 
-// Why a file is not opened.
-fn error_of(failed: &io::Error) -> JournalError
-    ensures { (result ≡ error.Memory) ⊎ (result ≡ error.Disk) }
+// The error of a journal whose file is not opened: `Busy` exactly if another process has it.
+fn error_of(failed: &OpenError) -> JournalError
+    ensures { result ≡ error_of_open failed.now }
 {
-    match failed.kind() {
-        io::ErrorKind::OutOfMemory => JournalError::Memory,
-        _ => JournalError::Disk,
+    match failed {
+        OpenError::OutOfMemory => JournalError::Memory,
+        OpenError::Busy => JournalError::Busy,
+        OpenError::HotJournal => JournalError::Disk,
+        OpenError::Io(error) => match error.kind() {
+            io::ErrorKind::OutOfMemory => JournalError::Memory,
+            _ => JournalError::Disk,
+        },
     }
 }
 
@@ -67,16 +74,13 @@ impl<S: Start> Disks for HostDisks<'_, S> {
 
     ghost holds = { λ _ _. S.Start.db };
 
-    ghost fails = { λ _ _ e. (e ≡ error.Memory) ⊎ (e ≡ error.Busy) ⊎ (e ≡ error.Disk) };
+    ghost fails = { λ _ _ e. (failed : OpenError) × (e ≡ error_of_open failed) };
 
     fn open(self, path: &str) -> Result<FileFrom<S>, JournalError> {
         let HostDisks { host, start } = self;
         match sqlite_std_file::open(host, path, start) {
             Ok(Files { log: _, db }) => Ok(db),
-            Err(OpenError::OutOfMemory) => Err(JournalError::Memory),
-            Err(OpenError::Busy) => Err(JournalError::Busy),
-            Err(OpenError::Io(error)) => Err(error_of(&error)),
-            Err(OpenError::HotJournal) => Err(JournalError::Disk),
+            Err(failed) => Err(error_of(&failed)),
         }
     }
 }

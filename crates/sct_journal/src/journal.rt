@@ -46,9 +46,10 @@ impl<D: Disk> Journal<D> {
 
         // It does not give up by itself.
         ensures failed { IsErrOf result error.Disk → MoreFaults (D.Disk.faults (disk_of self.old)) (D.Disk.faults (disk_of self.new)) }
-        ensures full { IsErrOf result error.Full → IsTrue (D.Disk.is_clean (disk_of self.old)) → 2 ^ 62 ≤ length (D.Disk.seen (disk_of self.old)) }
+        ensures full { IsErrOf result error.Full → IsTrue (D.Disk.is_clean (disk_of self.new)) → 2 ^ 62 ≤ length (D.Disk.seen (disk_of self.new)) }
         ensures errors { IfErr result (λ e. (e ≡ error.Memory) ⊎ (e ≡ error.Disk) ⊎ (e ≡ error.Full)) }
         ensures memory { IsErrOf result error.Memory → disk_of self.new ≡ disk_of self.old }
+        ensures unwritten { IsErrOf result error.Full → disk_of self.new ≡ disk_of self.old }
         ensures faults { D.Disk.faults (disk_of self.old) ≤ D.Disk.faults (disk_of self.new) }
     {
         if batch.is_empty() {

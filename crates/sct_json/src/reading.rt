@@ -1,9 +1,10 @@
 //! From the bytes of an object to its message.
-ghost use Rattle.std.specs.Prelude.{◌≡◌, Ok};
+ghost use Rattle.std.specs.Prelude.{◌≡◌, ◌≢◌, Ok, IfErr};
 ghost use Rattle.serde_json.specs.Read.{read};
 ghost use Rattle.serde_json.specs.View.{view, members_view};
 ghost use Rattle.sct_message.specs.Rules.{first_broken_rule};
 ghost use Rattle.sct_json.specs.Objects.{message_object, GivesOrLeaves};
+ghost use Rattle.sct_json.specs.declared.faults.JsonFault.TheVariants as fault;
 ghost use Rattle.sct_json.specs.Reading.{GivesWithMemory, draft_in, kind_in, shape_in, follows_unless, message_in_whole, object_in, value_in, message_in};
 
 use crate::extra_key::refuse_extra;
@@ -84,7 +85,8 @@ fn read_draft<O: Object>(alloc: Global, kind: Kind, object: &O) -> Result<Draft,
 
 /// The message of elements that follow the rules of their kind.
 fn keeping_rules(elements: Draft) -> Result<Message, JsonFault>
-    ensures { GivesWithMemory result (follows_unless (first_broken_rule elements) elements) }
+    ensures read { GivesWithMemory result (follows_unless (first_broken_rule elements) elements) }
+    ensures memory { IfErr result (λ refusal. refusal ≢ fault.Memory) }
 {
     match Message::of(elements) {
         Ok(message) => Ok(message),

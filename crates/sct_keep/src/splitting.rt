@@ -15,7 +15,7 @@ use sct_view::View;
 use std::alloc::{AllocError, Global};
 use std::sync::Arc;
 
-/// Messages that are kept and messages that are closed, in the order of the list that was split.
+/// Messages that are kept and messages that are closed. No clause says in which order.
 #[derive(Drop)]
 pub struct KeptAndClosed {
     /// What stays: the messages with a tie to a transfer that is not done.

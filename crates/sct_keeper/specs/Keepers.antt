@@ -1,5 +1,5 @@
 -- A keeper: a site whose journal is on a disk. Read by an auditor.
-use Rattle.std.specs.Prelude.{◌≡◌, ◌⊎◌, ℕ, ◌++◌, ◌∷◌, Bool, IsTrue, List, codes, ⊤}
+use Rattle.std.specs.Prelude.{◌≡◌, ◌⊎◌, ℕ, ◌≤◌, ◌^◌, ◌++◌, ◌∷◌, Bool, IsTrue, List, codes, length, ⊤}
 use Rattle.std.specs.Fmt.{decimal}
 use Rattle.sct_site.specs.Cores.{Core}
 use Rattle.sct_journal.specs.Kept.{kept, recorded}
@@ -54,6 +54,16 @@ IsForeign other = ⊥
 pub record IsUntouched {D : Type 0} (seen : D → List ℕ) (may_leave : D → List ℕ → Type 0) (disk left : D) : Type 0 where
   pub seen_alike : seen left ≡ seen disk
   pub no_more : (c : List ℕ) → may_leave left c → may_leave disk c
+
+-- out of memory (65)
+abbrev pub IsOfMemory : KeeperError → Type 0
+IsOfMemory error.Memory = ⊤
+IsOfMemory (error.Journal journal.Memory) = ⊤
+IsOfMemory other = ⊥
+
+-- the file has 2^62 bytes or more, if no read of the disk was wrong
+abbrev pub IsFull : {D : Type 0} → (D → List ℕ) → (D → Bool) → D → Type 0
+IsFull seen is_clean disk = IsTrue (is_clean disk) → 2 ^ 62 ≤ length (seen disk)
 
 -- the errors of an opening: out of memory, no such site, a file that is not the journal of this site, or a failed call of the disk
 abbrev pub EndsOpening : KeeperError → Type 0

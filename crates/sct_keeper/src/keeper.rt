@@ -8,7 +8,7 @@ ghost use Rattle.sct_site.specs.Cores.{is_open};
 ghost use Rattle.sct_keeper.specs.declared.fault.KeeperError.TheVariants as error;
 ghost use Rattle.sct_journal.specs.declared.error.JournalError.TheVariants as journal;
 ghost use Rattle.sct_journal.specs.declared.front.Front.TheVariants as front;
-ghost use Rattle.sct_keeper.specs.Keepers.{EndsOpening, EndsRound, IsForeign, IsKeeper, IsRecordedBeforeOrAfter, IsUntouched, answer_of_keeper, core_of_keeper, header, keeper_disk, watched_site_of};
+ghost use Rattle.sct_keeper.specs.Keepers.{EndsOpening, EndsRound, IsForeign, IsFull, IsKeeper, IsOfMemory, IsRecordedBeforeOrAfter, IsUntouched, answer_of_keeper, core_of_keeper, header, keeper_disk, watched_site_of};
 ghost use Rattle.sct_requests.specs.Questions.{Says, answer_asked, watched_after};
 ghost use Rattle.sct_requests.specs.Steps.{answers_to, brought, core_after, core_kept};
 
@@ -111,10 +111,11 @@ impl<D: Disk> Keeper<D> {
         }
     }
 
-    /// Answers a question about what the site holds: `vector`, `cut HAVE`, `status`, `totals`, `archive`, `contradictions`,
-    /// `evaluate`, `changes`, `transfer BANK TX`, `messages BANK TX`, `bank BANK` or `report BANK DAY LIST`, in which tabs are
-    /// the line feeds of the list. [`Keeper::text`] is then the text that was asked for. The cost is that of the [`Question`] of
-    /// that name. The question may be refused. The error is that it is out of memory.
+    /// Answers a question about what the site holds: `vector`, `cut HAVE`, `entries ORIGIN ABOVE MOST`, `digest ORIGIN COUNT`,
+    /// `digests`, `status`, `totals`, `archive`, `contradictions`, `evaluate`, `changes`, `transfer BANK TX`, `messages BANK TX`,
+    /// `bank BANK` or `report BANK DAY LIST`, in which tabs are the line feeds of the list. [`Keeper::text`] is then the text that
+    /// was asked for. The cost is that of the [`Question`] of that name. The question may be refused. The error is that it is out
+    /// of memory.
     pub fn ask(&mut self, alloc: Global, question: &[u8]) -> Result<AskResult, AllocError>
         requires keeper { IsKeeper D.Disk.seen D.Disk.may_leave D.Disk.is_usable D.Disk.is_clean self.old }
         ensures says { Says (answer_asked (watched_site_of self.old) question.now) result (answer_of_keeper self.new) }
@@ -128,7 +129,10 @@ impl<D: Disk> Keeper<D> {
 
     /// The site is given the lines of a text that line feeds end, and each that brings it an entry is written to the journal,
     /// all of them in one batch. At `Ok` they are on the disk, and only then are there answers. At `Err`, open the keeper
-    /// again: `Memory` (65), or `Disk` (78) if a call of the disk failed.
+    /// again:
+    /// - `Memory` (65): nothing was written;
+    /// - `Disk` (78): a call of the disk failed;
+    /// - `Full` (78): the file has 2^62 bytes. Nothing was written.
     pub fn round(&mut self, alloc: Global, text: &[u8]) -> Result<Vec<Reply>, KeeperError>
         requires keeper { IsKeeper D.Disk.seen D.Disk.may_leave D.Disk.is_usable D.Disk.is_clean self.old }
 
@@ -144,6 +148,9 @@ impl<D: Disk> Keeper<D> {
             → IsRecordedBeforeOrAfter (recorded (D.Disk.seen (keeper_disk self.old))) (brought (core_of_keeper self.old) (ended_lines text.now)) c }
         ensures clean { D.Disk.is_clean (keeper_disk self.new) ≡ D.Disk.is_clean (keeper_disk self.old) }
         ensures failed { IfErr result (λ e. e ≡ error.Journal journal.Disk → MoreFaults (D.Disk.faults (keeper_disk self.old)) (D.Disk.faults (keeper_disk self.new))) }
+        // Without memory, and if the file cannot grow, nothing was written.
+        ensures memory { IfErr result (λ e. IsOfMemory e → keeper_disk self.new ≡ keeper_disk self.old) }
+        ensures full { IfErr result (λ e. e ≡ error.Journal journal.Full → IsFull D.Disk.seen D.Disk.is_clean (keeper_disk self.new)) }
         ensures faults { D.Disk.faults (keeper_disk self.old) ≤ D.Disk.faults (keeper_disk self.new) }
         ensures errors { IfErr result EndsRound }
     {

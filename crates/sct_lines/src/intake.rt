@@ -1,5 +1,5 @@
 //! An input read line by line: the messages of its lines, and the lines that are refused.
-ghost use Rattle.std.specs.Prelude.{◌≡◌, ◌+◌, ◌<◌, ◌≤◌, ◌++◌, ◌∷◌, [], ◌^◌, ◌-◌, length, IfOk, OnOk};
+ghost use Rattle.std.specs.Prelude.{◌≡◌, ◌+◌, ◌<◌, ◌≤◌, ◌++◌, ◌∷◌, [], ◌^◌, ◌-◌, length, vec_len, vec_capacity, IfOk, OnOk};
 ghost use Rattle.sct_json.specs.Reading.{message_in};
 ghost use Rattle.sct_lines.specs.Lines.{
   messages_among,
@@ -124,13 +124,17 @@ const LINES: u64 = 64;
 // How many bytes it asks for: more than the messages of `LINES` lines take.
 const AHEAD: usize = 98_304;
 
-// Before every `LINES` lines, asks for `AHEAD` bytes and gives them back at once. A thread's heap grows by no more than what
-// is asked for. Each growth is a system call, which blocks the other threads. So the heap grows by many pages at a time. If
-// there is not that much memory, each line asks for its own.
-fn ask_ahead(alloc: Global, number: u64) {
+// Before every `LINES` lines, asks for `AHEAD` bytes and gives them back at once: an empty `room` has no byte afterwards. A
+// thread's heap grows by no more than what is asked for. Each growth is a system call, which blocks the other threads. So the
+// heap grows by many pages at a time. If there is not that much memory, each line asks for its own.
+fn ask_ahead(room: &mut Vec<u8>, number: u64)
+    ensures empty { room.new.items ≡ room.old.items }
+    ensures back { vec_len room.old ≡ 0 → vec_capacity room.new ≡ 0 }
+{
     if number % LINES == 0 {
-        drop(Vec::<u8>::with_capacity(alloc, AHEAD));
+        drop(room.reserve(AHEAD));
     }
+    room.shrink_to_fit();
 }
 
 /// What is read of a text that comes in blocks of lines. A contract sees it as the text so far, whose bytes are not kept.
@@ -215,11 +219,12 @@ pub(crate) fn read_part(
 {
     let mut intake = Intake::new(alloc);
     let mut reader = MessageReader::new(alloc);
+    let mut room = Vec::new(alloc);
     let mut lines = 0;
     let mut rest = part;
     while let Some((line, after)) = first_line(rest) {
         shortage.check()?;
-        ask_ahead(alloc, lines);
+        ask_ahead(&mut room, lines);
         lines += 1;
         intake.take(alloc, &mut reader, front, before, lines, line)?;
         rest = after;

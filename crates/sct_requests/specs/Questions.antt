@@ -1,14 +1,16 @@
 -- The questions of a keeper, each a line that begins with `? `, and their answers. Read by an auditor.
-use Rattle.std.specs.Prelude.{ℕ, ◌≡◌, ◌+◌, List, [], codes, drop, take, length, position, Option, None, Some, Result, Ok, Err, if◌then◌else◌, ⊤}
+use Rattle.std.specs.Prelude.{ℕ, ◌≡◌, ◌+◌, List, [], codes, drop, take, length, position, Option, None, Some, Result, Ok, Err, if◌then◌else◌, option_and_then, ⊤}
 use Rattle.sct_element.specs.Text.{is_text}
 use Rattle.sct_message.specs.Sets.{MessageSet}
 use Rattle.sct_set.specs.Archive.{archive_text_of}
 use Rattle.sct_view.specs.StatusText.{status_text_of}
 use Rattle.sct_view.specs.TotalsText.{totals_text_of}
-use Rattle.sct_delta.specs.Entries.{messages_of}
-use Rattle.sct_delta.specs.TextLines.{is_space}
+use Rattle.sct_delta.specs.Entries.{Placed, messages_of}
+use Rattle.sct_delta.specs.TextLines.{is_space, number_in}
+use Rattle.sct_delta.specs.VectorText.{origin_of_text}
 use Rattle.sct_exchange.specs.Sites.{held_text}
-use Rattle.sct_embed.specs.Calls.{cut_answer}
+use Rattle.sct_digest.specs.Digests.{digests_text}
+use Rattle.sct_embed.specs.Calls.{cut_answer, digest_by_arguments, entries_by_arguments, text_size_named}
 use Rattle.sct_embed.specs.Questions.{bank_answer, changes_since, contradictions_text_of, messages_answer, report_answer, transfer_answer}
 use Rattle.sct_embed.specs.declared.faults.EmbedFault.{EmbedFault}
 use Rattle.sct_requests.specs.WatchedSites.{WatchedSite}
@@ -54,6 +56,7 @@ answer_named site name =
     else if is_text name (codes "totals") then Ok (totals_text_of (messages_of site.core.arrivals))
     else if is_text name (codes "archive") then Ok (archive_text_of (messages_of site.core.arrivals))
     else if is_text name (codes "contradictions") then Ok (contradictions_text_of (messages_of site.core.arrivals))
+    else if is_text name (codes "digests") then Ok (digests_text site.core.arrivals)
     else if is_text name (codes "evaluate") then Ok []
     else if is_text name (codes "changes") then Ok (changes_since site.watched site.core.arrivals)
     else Err fault.NoQuestion
@@ -66,6 +69,27 @@ abbrev pub report_asked : MessageSet → Option (List ℕ × List ℕ) → Resul
 report_asked held None = Err fault.NoQuestion
 report_asked held (Some parts) = report_about held parts.0 (two_parts parts.1)
 
+-- the entries that an origin, a count and the size of a text ask for, each a word
+abbrev pub entries_of_words : List Placed → List ℕ → List ℕ → List ℕ → Result (List ℕ) EmbedFault
+entries_of_words arrivals origin above most =
+    entries_by_arguments (origin_of_text origin) (number_in above) (option_and_then text_size_named (number_in most)) arrivals
+
+abbrev pub entries_about : List Placed → List ℕ → Option (List ℕ × List ℕ) → Result (List ℕ) QuestionFault
+entries_about arrivals origin None = Err fault.NoQuestion
+entries_about arrivals origin (Some parts) = about (one_word parts.1) (λ most. entries_of_words arrivals origin parts.0 most)
+
+abbrev pub entries_in_words : List Placed → Option (List ℕ × List ℕ) → Result (List ℕ) QuestionFault
+entries_in_words arrivals None = Err fault.NoQuestion
+entries_in_words arrivals (Some parts) = entries_about arrivals parts.0 (two_parts parts.1)
+
+-- the digest that an origin and a count ask for, each a word
+abbrev pub digest_of_words : List Placed → List ℕ → List ℕ → Result (List ℕ) EmbedFault
+digest_of_words arrivals origin count = digest_by_arguments (origin_of_text origin) (number_in count) arrivals
+
+abbrev pub digest_in_words : List Placed → Option (List ℕ × List ℕ) → Result (List ℕ) QuestionFault
+digest_in_words arrivals None = Err fault.NoQuestion
+digest_in_words arrivals (Some parts) = about (one_word parts.1) (λ count. digest_of_words arrivals parts.0 count)
+
 -- questions about what comes after the first word
 abbrev pub answer_about : WatchedSite → List ℕ → List ℕ → Result (List ℕ) QuestionFault
 answer_about site name rest =
@@ -75,6 +99,8 @@ answer_about site name rest =
     else if is_text name (codes "messages")
     then about (two_parts rest) (λ parts. messages_answer parts.0 parts.1 (messages_of site.core.arrivals))
     else if is_text name (codes "bank") then about (one_word rest) (λ bank. bank_answer bank (messages_of site.core.arrivals))
+    else if is_text name (codes "entries") then entries_in_words site.core.arrivals (two_parts rest)
+    else if is_text name (codes "digest") then digest_in_words site.core.arrivals (two_parts rest)
     else if is_text name (codes "report") then report_asked (messages_of site.core.arrivals) (two_parts rest)
     else Err fault.NoQuestion
 
@@ -82,8 +108,8 @@ abbrev pub answer_in : WatchedSite → List ℕ → Option (List ℕ × List ℕ
 answer_in site text None = answer_named site text
 answer_in site text (Some parts) = answer_about site parts.0 parts.1
 
--- the answer to a question: `vector`, `cut HAVE`, `status`, `totals`, `archive`, `contradictions`, `evaluate`, `changes`,
--- `transfer BANK TX`, `messages BANK TX`, `bank BANK` or `report BANK DAY LIST`
+-- the answer to a question: `vector`, `cut HAVE`, `entries ORIGIN ABOVE MOST`, `digest ORIGIN COUNT`, `digests`, `status`, `totals`,
+-- `archive`, `contradictions`, `evaluate`, `changes`, `transfer BANK TX`, `messages BANK TX`, `bank BANK` or `report BANK DAY LIST`
 unfoldable pub answer_asked : WatchedSite → List ℕ → Result (List ℕ) QuestionFault
 answer_asked site question = answer_in site question (two_parts question)
 

@@ -5,10 +5,11 @@ ghost use Rattle.sct_embed.specs.Asking as asked;
 ghost use Rattle.sct_embed.specs.Asking.{answer_to_question};
 ghost use Rattle.sct_embed.specs.Calls.{cut_answer};
 ghost use Rattle.sct_embed.specs.Questions.{bank_answer, changes_since, messages_answer, transfer_answer};
-ghost use Rattle.sct_requests.specs.Questions.{Says, about, answer_about, answer_asked, answer_named, answered, one_word, report_asked, two_parts, watched_after};
+ghost use Rattle.sct_requests.specs.Questions.{Says, about, answer_about, answer_asked, answer_named, answered, digest_in_words, digest_of_words, entries_in_words, entries_of_words, one_word, report_asked, two_parts, watched_after};
 
 use crate::steps::with_feeds;
 use crate::words::{one_word, two_parts};
+use sct_delta::{number_of, origin_of};
 use sct_embed::{EmbedFault, EmbeddedSite, Question};
 use std::alloc::{AllocError, Global};
 
@@ -78,6 +79,8 @@ fn ask_named(site: &mut EmbeddedSite, name: &[u8]) -> Result<AskResult, AllocErr
         put(site, Question::Archive)
     } else if name == b"contradictions".as_slice() {
         put(site, Question::Contradictions)
+    } else if name == b"digests".as_slice() {
+        put(site, Question::Digests)
     } else if name == b"evaluate".as_slice() {
         ask_to_evaluate(site)
     } else if name == b"changes".as_slice() {
@@ -120,6 +123,88 @@ fn ask_cut(site: &mut EmbeddedSite, words: &[u8]) -> Result<AskResult, AllocErro
         return Ok(Err(QuestionFault::NoQuestion));
     };
     put(site, Question::Cut(have))
+}
+
+// Asks for the entries that three words name. A word that names none is refused with its place.
+fn ask_entries_of(
+    site: &mut EmbeddedSite,
+    origin: &[u8],
+    above: &[u8],
+    most: &[u8],
+) -> Result<AskResult, AllocError>
+    ensures says { Says (answered (entries_of_words site.old.core.arrivals origin.now above.now most.now)) result site.new.answer }
+    ensures core { site.new.core ≡ site.old.core }
+    ensures watched { site.new.watched ≡ site.old.watched }
+{
+    let Some(origin) = origin_of(origin) else {
+        return Ok(Err(QuestionFault::Refused(EmbedFault::BadArgument(1))));
+    };
+    let Some(above) = number_of(above) else {
+        return Ok(Err(QuestionFault::Refused(EmbedFault::BadArgument(2))));
+    };
+    let Some(most) = number_of(most) else {
+        return Ok(Err(QuestionFault::Refused(EmbedFault::BadArgument(3))));
+    };
+    put(
+        site,
+        Question::Entries {
+            origin,
+            above,
+            most,
+        },
+    )
+}
+
+// Asks for the entries of an origin above a count, in a text of a limited size.
+fn ask_entries(site: &mut EmbeddedSite, words: &[u8]) -> Result<AskResult, AllocError>
+    ensures says { Says (entries_in_words site.old.core.arrivals (two_parts words.now)) result site.new.answer }
+    ensures core { site.new.core ≡ site.old.core }
+    ensures watched { site.new.watched ≡ site.old.watched }
+{
+    let Some((origin, words)) = two_parts(words) else {
+        return Ok(Err(QuestionFault::NoQuestion));
+    };
+    let Some((above, words)) = two_parts(words) else {
+        return Ok(Err(QuestionFault::NoQuestion));
+    };
+    let Some(most) = one_word(words) else {
+        return Ok(Err(QuestionFault::NoQuestion));
+    };
+    ask_entries_of(site, origin, above, most)
+}
+
+// Asks for the digest that two words name. A word that names none is refused with its place.
+fn ask_digest_of(
+    site: &mut EmbeddedSite,
+    origin: &[u8],
+    count: &[u8],
+) -> Result<AskResult, AllocError>
+    ensures says { Says (answered (digest_of_words site.old.core.arrivals origin.now count.now)) result site.new.answer }
+    ensures core { site.new.core ≡ site.old.core }
+    ensures watched { site.new.watched ≡ site.old.watched }
+{
+    let Some(origin) = origin_of(origin) else {
+        return Ok(Err(QuestionFault::Refused(EmbedFault::BadArgument(1))));
+    };
+    let Some(count) = number_of(count) else {
+        return Ok(Err(QuestionFault::Refused(EmbedFault::BadArgument(2))));
+    };
+    put(site, Question::Digest { origin, count })
+}
+
+// Asks for the digest of an origin's entries up to a count.
+fn ask_digest(site: &mut EmbeddedSite, words: &[u8]) -> Result<AskResult, AllocError>
+    ensures says { Says (digest_in_words site.old.core.arrivals (two_parts words.now)) result site.new.answer }
+    ensures core { site.new.core ≡ site.old.core }
+    ensures watched { site.new.watched ≡ site.old.watched }
+{
+    let Some((origin, words)) = two_parts(words) else {
+        return Ok(Err(QuestionFault::NoQuestion));
+    };
+    let Some(count) = one_word(words) else {
+        return Ok(Err(QuestionFault::NoQuestion));
+    };
+    ask_digest_of(site, origin, count)
 }
 
 // Asks for the line of a bank.
@@ -177,6 +262,10 @@ fn ask_about(
         ask_messages(site, words)
     } else if name == b"bank".as_slice() {
         ask_bank(site, words)
+    } else if name == b"entries".as_slice() {
+        ask_entries(site, words)
+    } else if name == b"digest".as_slice() {
+        ask_digest(site, words)
     } else if name == b"report".as_slice() {
         ask_report(alloc, site, words)
     } else {

@@ -1,10 +1,9 @@
-//! Desks with ample memory: the answers of one, a refused close, and three threads at one.
+//! Desks with ample memory: a refused close, and three threads at one. `tests/data/test-driver/desks.txt` has the answers of a desk.
 
 ghost use Rattle.std.specs.Prelude.{◌≡◌, [], IfSome};
 ghost use Rattle.sct_desk.specs.Passes.{IsOf};
 ghost use Rattle.sct_desk.specs.Tilings.{AreOurs};
 
-mod answers;
 mod scenes;
 mod shared;
 

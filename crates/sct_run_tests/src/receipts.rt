@@ -104,11 +104,3 @@ fn a_lost_receipt_is_refused(rt: HostRuntime) {
     let refusal = close_one(&rt, rt.alloc(), true).err();
     assert_eq!(rt; refusal, Some(WorkFault::Refused { number: 54 }));
 }
-
-#[test]
-fn faults_have_numbers(rt: HostRuntime) {
-    assert_eq!(rt; WorkFault::Held.number(), 61);
-    assert_eq!(rt; WorkFault::Memory.number(), 65);
-    assert_eq!(rt; WorkFault::Refused { number: 54 }.number(), 66);
-    assert_eq!(rt; WorkFault::NoWorker.number(), 67);
-}

@@ -62,8 +62,8 @@ fn text_of(alloc: Global, ran: &Ran) -> Result<Vec<u8>, WorldFault>
 /// event, with its number from 1 and its outcome. Then, for each site, a line with its number, its
 /// archive text, its status text and its totals text.
 ///
-/// The clause `exactly` is the promise of convergence: the answers of a site are those of exactly the messages that it took
-/// or accepted, as events, outcomes and deltas say.
+/// Convergence is `text` with `exactly`: the text has the answers of what each site holds, and a site holds exactly the messages
+/// that it took or accepted, as events, outcomes and deltas say.
 /// Errors: `BadSite` (44) if `sites` is not 1 to 1024; out of memory (40).
 #[tactic(auto, unfolding(crate::specs::Replays::replay_text))]
 pub fn replay(alloc: Global, sites: u16, events: &[Event]) -> Result<Vec<u8>, WorldFault>

@@ -10,7 +10,7 @@ use Rattle.sct_requests.specs.WatchedSites.{WatchedSite}
 use Rattle.sct_requests.specs.Steps.{brought}
 use Rattle.sct_requests.proofs.StepLemmas.{brought_join}
 use Rattle.sct_serve.specs.Replies.{replies_to, watched_site_after}
-use Rattle.sct_serve.specs.Serving.{Leaves, Replied}
+use Rattle.sct_serve.specs.Serving.{Leaves, Replied, Stops}
 use Rattle.sct_serve.proofs.ReplyLemmas.{replies_join, watched_site_core, watched_site_join}
 use Rattle.sct_streams.proofs.StreamLemmas.{appends_nothing, appends_on}
 
@@ -78,7 +78,7 @@ pub replied_none : (s : WatchedSite) (sound : Type 0) (before : List (List ℕ))
 replied_none s sound before held = record { ends = refl; replied = appends_nothing held; keeps = λ is. sym (append-nil before) }
 
 -- the lines of a journal after two lots of lines
-two_lots : (s : WatchedSite) (before xs ys : List (List ℕ)) → (before ++ brought s.core xs) ++ brought (watched_site_after s xs).core ys ≡ before ++ brought s.core (xs ++ ys)
+pub two_lots : (s : WatchedSite) (before xs ys : List (List ℕ)) → (before ++ brought s.core xs) ++ brought (watched_site_after s xs).core ys ≡ before ++ brought s.core (xs ++ ys)
 two_lots s before xs ys =
     append_assoc before (brought s.core xs) (brought (watched_site_after s xs).core ys)
     ∙ ap (λ (c : Core). before ++ (brought s.core xs ++ brought c ys)) (watched_site_core xs s)
@@ -177,3 +177,101 @@ leaves_in_part s m sound before mid held told_mid told text rest xs ys c so_far 
 pub no_lines : (text : List ℕ) (empty : Bool) → empty ≡ (length text == 0) → empty ≡ true → ended_lines text ≡ []
 no_lines [] empty is told = refl
 no_lines (byte ∷ bytes) empty is told = absurd (omega (arith, eqb-true (length (byte ∷ bytes)) 0 (sym is ∙ told)))
+
+-- ---- the round under way, of which no line has a reply
+
+module _ (s : WatchedSite) (before : List (List ℕ)) where
+  -- nothing of it is recorded
+  pub stops_none : (held : Option (List ℕ)) (lines : List (List ℕ)) (may_leave : List ℕ → Type 0) → ((c : List ℕ) → may_leave c → recorded c ≡ before) → Stops s before held held lines may_leave
+  stops_none held lines may_leave same = record {
+    done = [];
+    round = [];
+    others = lines;
+    parts = refl;
+    replied = appends_nothing held;
+    leaves = λ c is. inl (same c is ∙ sym (append-nil before));
+  }
+
+  -- the same if nothing was written by another name
+  pub stops_alike : (held told : Option (List ℕ)) (lines : List (List ℕ)) (may_leave : List ℕ → Type 0) → told ≡ held → ((c : List ℕ) → may_leave c → recorded c ≡ before) → Stops s before held told lines may_leave
+  stops_alike held told lines may_leave alike same = subst (λ (h : Option (List ℕ)). Stops s before held h lines may_leave) (sym alike) (stops_none held lines may_leave same)
+
+  -- all of it is, or nothing
+  pub stops_round : (held : Option (List ℕ)) (lines : List (List ℕ)) (may_leave : List ℕ → Type 0) → ((c : List ℕ) → may_leave c → IsRecordedBeforeOrAfter before (brought s.core lines) c)
+      → Stops s before held held lines may_leave
+  stops_round held lines may_leave left = record {
+    done = [];
+    round = lines;
+    others = [];
+    parts = sym (append-nil lines);
+    replied = appends_nothing held;
+    leaves = λ c is. subst (λ (l : List (List ℕ)). IsRecordedBeforeOrAfter l (brought s.core lines) c) (sym (append-nil before)) (left c is);
+  }
+
+  -- it was answered
+  pub stops_told : (held told : Option (List ℕ)) (lines : List (List ℕ)) (may_leave : List ℕ → Type 0) → ((c : List ℕ) → may_leave c → recorded c ≡ before ++ brought s.core lines)
+      → AppendsIfTold held told (replies_to s lines) → Stops s before held told lines may_leave
+  stops_told held told lines may_leave all whole = record {
+    done = lines;
+    round = [];
+    others = [];
+    parts = sym (append-nil lines);
+    replied = whole;
+    leaves = λ c may. inl (all c may);
+  }
+
+  -- the same of lines that were answered before
+  pub stops_all : (m : WatchedSite) (sound : Type 0) (after : List (List ℕ)) (held told : Option (List ℕ)) (lines : List (List ℕ)) (may_leave : List ℕ → Type 0)
+      → Replied s m sound before after held told lines → sound → ((c : List ℕ) → may_leave c → recorded c ≡ after) → Stops s before held told lines may_leave
+  stops_all m sound after held told lines may_leave first is same = record {
+    done = lines;
+    round = [];
+    others = [];
+    parts = sym (append-nil lines);
+    replied = first.replied;
+    leaves = λ c may. inl (same c may ∙ first.keeps is);
+  }
+
+  abbrev pub stops_after : (m : WatchedSite) (sound : Type 0) (mid : List (List ℕ)) (held told_mid told : Option (List ℕ)) (xs ys : List (List ℕ)) (may_leave : List ℕ → Type 0)
+      → Replied s m sound before mid held told_mid xs → sound → Stops m mid told_mid told ys may_leave → Stops s before held told (xs ++ ys) may_leave
+  stops_after m sound mid held told_mid told xs ys may_leave first is left =
+      let lines : mid ++ brought m.core left.done ≡ before ++ brought s.core (xs ++ left.done) =
+      (λ i. first.keeps is i ++ brought (first.ends i).core left.done) ∙ two_lots s before xs left.done in
+      let site : watched_site_after m left.done ≡ watched_site_after s (xs ++ left.done) =
+      ap (λ (t : WatchedSite). watched_site_after t left.done) first.ends ∙ sym (watched_site_join xs left.done s) in
+      record {
+        done = xs ++ left.done;
+        round = left.round;
+        others = left.others;
+        parts = ap (λ (l : List (List ℕ)). xs ++ l) left.parts ∙ sym (append_assoc xs left.done (left.round ++ left.others));
+        replied =
+            subst (λ (l : List ℕ). AppendsIfTold held told l)
+            (ap (λ (t : WatchedSite). replies_to s xs ++ replies_to t left.done) first.ends ∙ sym (replies_join xs left.done s))
+            (appends_on held told_mid told (replies_to s xs) (replies_to m left.done) first.replied left.replied);
+        leaves = λ c may.
+            subst (λ (l : List (List ℕ)). IsRecordedBeforeOrAfter l (brought (watched_site_after s (xs ++ left.done)).core left.round) c) lines
+            (subst (λ (t : WatchedSite). IsRecordedBeforeOrAfter (mid ++ brought m.core left.done) (brought t.core left.round) c) site (left.leaves c may));
+      }
+
+  pub stops_before : (held told : Option (List ℕ)) (xs ys : List (List ℕ)) (may_leave : List ℕ → Type 0) → Stops s before held told xs may_leave → Stops s before held told (xs ++ ys) may_leave
+  stops_before held told xs ys may_leave left = record {
+    done = left.done;
+    round = left.round;
+    others = left.others ++ ys;
+    parts =
+        ap (λ (l : List (List ℕ)). l ++ ys) left.parts
+        ∙ append_assoc left.done (left.round ++ left.others) ys
+        ∙ ap (λ (l : List (List ℕ)). left.done ++ l) (append_assoc left.round left.others ys);
+    replied = left.replied;
+    leaves = left.leaves;
+  }
+
+  pub stops_of : (held told : Option (List ℕ)) (xs ys : List (List ℕ)) (may_leave : List ℕ → Type 0) → xs ≡ ys → Stops s before held told xs may_leave → Stops s before held told ys may_leave
+  stops_of held told xs ys may_leave same left = subst (λ (l : List (List ℕ)). Stops s before held told l may_leave) same left
+
+pub stops_in_part : (s m : WatchedSite) (sound : Type 0) (before mid : List (List ℕ)) (held told_mid told : Option (List ℕ)) (text rest : List ℕ) (xs ys : List (List ℕ)) (may_leave : List ℕ → Type 0)
+    → InPart s m sound before mid held told_mid text rest → sound → ended_lines rest ≡ xs ++ ys → Stops m mid told_mid told xs may_leave → Stops s before held told (ended_lines text) may_leave
+stops_in_part s m sound before mid held told_mid told text rest xs ys may_leave so_far is parts left =
+    stops_of s before held told (so_far.done ++ (xs ++ ys)) (ended_lines text) may_leave
+    (sym (so_far.parts ∙ ap (λ (l : List (List ℕ)). so_far.done ++ l) parts))
+    (stops_after s before m sound mid held told_mid told so_far.done (xs ++ ys) may_leave so_far.replied is (stops_before m mid told_mid told xs ys may_leave left))

@@ -1,14 +1,14 @@
 -- A life, from its first line. Proof plumbing.
-use Rattle.std.proofs.Common.{◌≡◌, ◌∙◌, refl, ap, sym, subst, ℕ, List, [], ◌++◌, take, drop, append_assoc}
+use Rattle.std.proofs.Common.{◌≡◌, ◌∙◌, refl, ap, sym, subst, inl, inr, ℕ, ◌≤◌, List, [], ◌++◌, take, drop, arith, append_assoc}
 use Rattle.std.specs.Prelude.{Option, Some, None, IfSome}
 use Rattle.std.proofs.lemmas.List.{append-nil, take-append-drop}
 use Rattle.sct_streams.specs.Stream.{AppendsIfTold, AppendsPrefixIfTold}
 use Rattle.sct_journal.specs.Kept.{ended_lines, recorded}
 use Rattle.sct_requests.specs.WatchedSites.{WatchedSite}
 use Rattle.sct_requests.specs.Steps.{core_kept}
-use Rattle.sct_serve.specs.Lives.{LifeLeaves, output_of, ready_line, watched_site_kept}
+use Rattle.sct_serve.specs.Lives.{LifeLeaves, LifeStops, output_of, ready_line, watched_site_kept}
 use Rattle.sct_serve.specs.Replies.{replies_to}
-use Rattle.sct_serve.specs.Serving.{LeavesOf}
+use Rattle.sct_serve.specs.Serving.{LeavesOf, StopsReading}
 use Rattle.sct_serve.proofs.LeaveLemmas.{leaves_none}
 use Rattle.sct_streams.proofs.StreamLemmas.{appends_nothing, appends_on, read_nothing}
 
@@ -89,6 +89,54 @@ pub written_from : (s t : WatchedSite) (unread held mid held_now : Option (List 
     → IfSome unread (λ input. AppendsIfTold mid held_now (replies_to t (ended_lines input))) → IfSome unread (λ input. AppendsIfTold held held_now (output_of s input))
 written_from s t unread held mid held_now same first rest =
     all_written s unread held mid held_now first (subst (λ (x : WatchedSite). IfSome unread (λ input. AppendsIfTold mid held_now (replies_to x (ended_lines input)))) same rest)
+
+-- ---- the round under way
+
+pub stops_silent : (s : WatchedSite) (before : List (List ℕ)) (unread held : Option (List ℕ)) (may_leave : List ℕ → Type 0) → ((c : List ℕ) → may_leave c → recorded c ≡ before)
+    → LifeStops s before unread unread held held may_leave
+stops_silent s before unread held may_leave same = inl (record { unread_alike = refl; held_alike = refl; keeps = same })
+
+-- the same if nothing was written by another name
+pub stops_silent_alike : (s : WatchedSite) (before : List (List ℕ)) (unread held told : Option (List ℕ)) (may_leave : List ℕ → Type 0) → told ≡ held → ((c : List ℕ) → may_leave c → recorded c ≡ before)
+    → LifeStops s before unread unread held told may_leave
+stops_silent_alike s before unread held told may_leave alike same = inl (record { unread_alike = refl; held_alike = alike; keeps = same })
+
+-- after the first line nothing was read
+pub stops_greeted : (s : WatchedSite) (before : List (List ℕ)) (unread held mid : Option (List ℕ)) (may_leave : List ℕ → Type 0) → AppendsIfTold held mid (ready_line s.core)
+    → ((c : List ℕ) → may_leave c → recorded c ≡ before) → LifeStops s before unread unread held mid may_leave
+stops_greeted s before unread held mid may_leave first same = inr (record {
+  front = [];
+  last = [];
+  taken = read_nothing unread;
+  most_last = omega arith;
+  done = [];
+  round = [];
+  others = [];
+  parts = refl;
+  replied = subst (λ (l : List ℕ). AppendsIfTold held mid l) (sym (append-nil (ready_line s.core))) first;
+  leaves = λ c is. inl (same c is ∙ sym (append-nil before));
+})
+
+-- the same site and lines by other names
+pub stops_from : (s t : WatchedSite) (before other : List (List ℕ)) (unread unread_now held mid held_now : Option (List ℕ)) (most : ℕ) (may_leave : List ℕ → Type 0) → t ≡ s → other ≡ before
+    → AppendsIfTold held mid (ready_line s.core) → most ≤ 1048576 → StopsReading most [] t other unread unread_now mid held_now may_leave → LifeStops s before unread unread_now held held_now may_leave
+stops_from s t before other unread unread_now held mid held_now most may_leave same alike first few left =
+    inr (begun (subst (λ (l : List (List ℕ)). StopsReading most [] s l unread unread_now mid held_now may_leave) alike
+    (subst (λ (x : WatchedSite). StopsReading most [] x other unread unread_now mid held_now may_leave) same left)))
+  where
+    begun : StopsReading most [] s before unread unread_now mid held_now may_leave → StopsReading 1048576 (ready_line s.core) s before unread unread_now held held_now may_leave
+    begun stop = record {
+      front = stop.front;
+      last = stop.last;
+      taken = stop.taken;
+      most_last = omega (arith, few, stop.most_last);
+      done = stop.done;
+      round = stop.round;
+      others = stop.others;
+      parts = stop.parts;
+      replied = appends_on held mid held_now (ready_line s.core) (replies_to s (ended_lines stop.front ++ stop.done)) first stop.replied;
+      leaves = stop.leaves;
+    }
 
 -- the site of a journal that was opened
 pub watched_site_of_kept : (s : WatchedSite) (number group : ℕ) (lines : List (List ℕ)) → s.core ≡ core_kept number group lines → s.watched ≡ None → s ≡ watched_site_kept number group lines

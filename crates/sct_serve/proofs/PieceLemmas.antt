@@ -11,10 +11,10 @@ use Rattle.sct_journal.proofs.LineLemmas.{ended_line, is_feed, lines_join, no_fe
 use Rattle.sct_requests.specs.WatchedSites.{WatchedSite}
 use Rattle.sct_requests.specs.Steps.{is_question_line}
 use Rattle.sct_serve.specs.Replies.{replies_to}
-use Rattle.sct_serve.specs.Serving.{EndsTaking, HasNoQuestion, HasReadTooLong, HasTooLong, IsBehind, Leaves, LeavesOf, Replied, Served, are_within, failed_reads, most_request}
+use Rattle.sct_serve.specs.Serving.{AreShort, EndsTaking, HasNoQuestion, HasReadShort, HasReadTooLong, HasTooLong, IsBehind, Leaves, LeavesOf, Replied, Served, Stops, StopsReading, are_within, failed_reads, most_request}
 use Rattle.sct_serve.specs.declared.fault.ServeFault.{ServeFault}
 use Rattle.sct_serve.specs.declared.fault.ServeFault.TheVariants as fault
-use Rattle.sct_serve.proofs.LeaveLemmas.{leaves_after, leaves_none, leaves_of, replied_none, replied_of, replied_on}
+use Rattle.sct_serve.proofs.LeaveLemmas.{leaves_after, leaves_none, leaves_of, replied_none, replied_of, replied_on, stops_after, stops_none}
 use Rattle.sct_streams.proofs.StreamLemmas.{read_all, read_nothing, read_on}
 
 -- ---- lines and bytes
@@ -213,20 +213,22 @@ served_first s m sound before after unread held pending same kept_same none = re
   taken = read_nothing unread;
   behind = record { parts = λ more. ap (λ (l : List ℕ). ended_lines (l ++ more)) (sym none); none = ap ended_lines none };
   within = refl;
+  short = omega (arith, ap length none);
   replied = subst (λ (t : WatchedSite). Replied s t sound before after held held []) (sym same) (subst (λ (l : List (List ℕ)). Replied s s sound before l held held []) (sym kept_same) (replied_none s sound before held));
 }
 
 pub served_more : (s m n : WatchedSite) (sound : Type 0) (before mid after : List (List ℕ)) (unread unread_mid unread_now held held_mid held_now : Option (List ℕ)) (pending piece waits : List ℕ)
     → Served s m sound before mid unread unread_mid held held_mid pending → HasReadIfTold unread_mid unread_now piece
-    → Replied m n sound mid after held_mid held_now (ended_lines (pending ++ piece)) → IsBehind (pending ++ piece) waits → are_within (pending ++ piece) ≡ true
+    → Replied m n sound mid after held_mid held_now (ended_lines (pending ++ piece)) → IsBehind (pending ++ piece) waits → are_within (pending ++ piece) ≡ true → length waits ≤ most_request
     → Served s n sound before after unread unread_now held held_now waits
-served_more s m n sound before mid after unread unread_mid unread_now held held_mid held_now pending piece waits so_far given done behind within =
+served_more s m n sound before mid after unread unread_mid unread_now held held_mid held_now pending piece waits so_far given done behind within short =
     let all : ended_lines (so_far.read ++ piece) ≡ ended_lines so_far.read ++ ended_lines (pending ++ piece) = so_far.behind.parts piece in
     record {
       read = so_far.read ++ piece;
       taken = read_on unread unread_mid unread_now so_far.read piece so_far.taken given;
       behind = behind_on so_far.read pending piece waits so_far.behind behind;
       within = ap (list_all fits) all ∙ all_join (ended_lines so_far.read) (ended_lines (pending ++ piece)) so_far.within within;
+      short = short;
       replied =
           replied_of s n sound before after held held_now (ended_lines so_far.read ++ ended_lines (pending ++ piece)) (ended_lines (so_far.read ++ piece)) (sym all)
           (replied_on s m n sound before mid after held held_mid held_now (ended_lines so_far.read) (ended_lines (pending ++ piece)) so_far.replied done);
@@ -277,8 +279,73 @@ served_end s m sound before mid unread unread_mid unread_now held told pending s
   taken = subst (λ (l : List ℕ). HasReadIfTold unread unread_now l) (append-nil so_far.read) (read_on unread unread_mid unread_now so_far.read [] so_far.taken given);
   behind = so_far.behind;
   within = so_far.within;
+  short = so_far.short;
   replied = so_far.replied;
 }
+
+-- ---- requests with too many bytes
+
+pub short_none : AreShort []
+short_none = record { within = refl; rest = []; behind = record { parts = λ more. refl; none = refl }; short = omega arith }
+
+-- none of the requests of an input that was read whole has too many bytes
+pub short_all : (s m : WatchedSite) (sound : Type 0) (before after : List (List ℕ)) (unread unread_now held held_now : Option (List ℕ)) (pending : List ℕ)
+    → Served s m sound before after unread unread_now held held_now pending → IfSome unread (λ _. unread_now ≡ Some []) → IfSome unread AreShort
+short_all s m sound before after None unread_now held held_now pending so_far end = tt
+short_all s m sound before after (Some left) unread_now held held_now pending so_far end =
+    subst AreShort (sym (read_all (Some left) unread_now so_far.read so_far.taken end))
+    (record { within = so_far.within; rest = pending; behind = so_far.behind; short = so_far.short })
+
+-- none had before the last read
+pub short_until : (s m : WatchedSite) (sound : Type 0) (before mid : List (List ℕ)) (unread unread_mid unread_now held told : Option (List ℕ)) (pending piece : List ℕ) (most : ℕ)
+    → Served s m sound before mid unread unread_mid held told pending → HasReadIfTold unread_mid unread_now piece → length piece ≤ most → HasReadShort most unread unread_now
+short_until s m sound before mid unread unread_mid unread_now held told pending piece most so_far given few = record {
+  front = so_far.read;
+  last = piece;
+  taken = read_on unread unread_mid unread_now so_far.read piece so_far.taken given;
+  short = record { within = so_far.within; rest = pending; behind = so_far.behind; short = so_far.short };
+  most_last = few;
+}
+
+pub short_within : (unread unread_now : Option (List ℕ)) (most more : ℕ) → most ≤ more → HasReadShort most unread unread_now → HasReadShort more unread unread_now
+short_within unread unread_now most more few read = record {
+  front = read.front;
+  last = read.last;
+  taken = read.taken;
+  short = read.short;
+  most_last = omega (arith, few, read.most_last);
+}
+
+pub short_unread : (unread : Option (List ℕ)) (most : ℕ) → HasReadShort most unread unread
+short_unread unread most = record { front = []; last = []; taken = read_nothing unread; short = short_none; most_last = omega arith }
+
+-- ---- the round under way
+
+pub stops_on : (s m : WatchedSite) (sound : Type 0) (before mid : List (List ℕ)) (unread unread_mid unread_now held held_mid held_now : Option (List ℕ)) (pending piece : List ℕ) (most : ℕ) (may_leave : List ℕ → Type 0)
+    → Served s m sound before mid unread unread_mid held held_mid pending → sound → HasReadIfTold unread_mid unread_now piece → length piece ≤ most
+    → Stops m mid held_mid held_now (ended_lines (pending ++ piece)) may_leave → StopsReading most [] s before unread unread_now held held_now may_leave
+stops_on s m sound before mid unread unread_mid unread_now held held_mid held_now pending piece most may_leave so_far is given few left =
+    let all = stops_after s before m sound mid held held_mid held_now (ended_lines so_far.read) (ended_lines (pending ++ piece)) may_leave so_far.replied is left in
+    record {
+      front = so_far.read;
+      last = piece;
+      taken = read_on unread unread_mid unread_now so_far.read piece so_far.taken given;
+      most_last = few;
+      done = left.done;
+      round = left.round;
+      others = left.others;
+      parts = so_far.behind.parts piece ∙ all.parts;
+      replied = all.replied;
+      leaves = all.leaves;
+    }
+
+-- nothing was read since the last round
+pub stops_still : (s m : WatchedSite) (sound : Type 0) (before mid : List (List ℕ)) (unread unread_mid unread_now held told : Option (List ℕ)) (pending : List ℕ) (most : ℕ) (may_leave : List ℕ → Type 0)
+    → Served s m sound before mid unread unread_mid held told pending → sound → HasReadIfTold unread_mid unread_now [] → ((c : List ℕ) → may_leave c → recorded c ≡ mid)
+    → StopsReading most [] s before unread unread_now held told may_leave
+stops_still s m sound before mid unread unread_mid unread_now held told pending most may_leave so_far is given same =
+    stops_on s m sound before mid unread unread_mid unread_now held told told pending [] most may_leave so_far is given (omega arith)
+    (stops_none m mid told (ended_lines (pending ++ [])) may_leave same)
 
 -- ---- faults
 

@@ -1,9 +1,9 @@
 -- What a site reads, writes and leaves while it is served. Read by an auditor.
-use Rattle.std.specs.Prelude.{◌≡◌, ◌⊎◌, ℕ, ◌<◌, ◌++◌, List, [], ◌∷◌, Option, Some, None, Bool, true, false, length, nat_le, ⊤}
+use Rattle.std.specs.Prelude.{◌≡◌, ◌⊎◌, ℕ, ◌<◌, ◌≤◌, ◌++◌, List, [], ◌∷◌, Option, Some, None, Bool, true, false, length, nat_le, ⊤}
 use Rattle.std.specs.List.{list_all}
 use Rattle.sct_streams.specs.Stream.{AppendsIfTold, HasReadIfTold}
 use Rattle.sct_journal.specs.Kept.{ended_lines, recorded}
-use Rattle.sct_keeper.specs.Keepers.{EndsOpening, EndsRound, IsForeign}
+use Rattle.sct_keeper.specs.Keepers.{EndsOpening, EndsRound, IsForeign, IsRecordedBeforeOrAfter}
 use Rattle.sct_requests.specs.WatchedSites.{WatchedSite}
 use Rattle.sct_requests.specs.Steps.{brought, is_question_line}
 use Rattle.sct_serve.specs.Replies.{replies_to, watched_site_after}
@@ -27,6 +27,21 @@ most_request = 67108864
 -- no line of the text has more
 abbrev pub are_within : List ℕ → Bool
 are_within text = list_all (λ line. nat_le (length line) most_request) (ended_lines text)
+
+-- no request among these bytes has more: no line of them, and not what is behind their last line feed
+pub record AreShort (text : List ℕ) : Type 0 where
+  pub within : are_within text ≡ true
+  pub rest : List ℕ
+  pub behind : IsBehind text rest
+  pub short : length rest ≤ most_request
+
+-- Some bytes were read. Until the last read, which gave at most so many, no request had too many.
+pub record HasReadShort (most : ℕ) (unread unread_now : Option (List ℕ)) : Type 0 where
+  pub front : List ℕ
+  pub last : List ℕ
+  pub taken : HasReadIfTold unread unread_now (front ++ last)
+  pub short : AreShort front
+  pub most_last : length last ≤ most
 
 -- none of the lines is a question
 abbrev pub HasNoQuestion : List (List ℕ) → Type 0
@@ -63,12 +78,38 @@ pub record LeavesOf (site : WatchedSite) (before : List (List ℕ)) (unread unre
   pub taken : HasReadIfTold unread unread_now read
   pub leaves : Leaves site before held held_now (ended_lines read) file
 
--- Some bytes were read. Each line of them has its reply, and what is behind them waits.
+-- The service ended inside a round. The lines before the round have their replies, and no line of it has one. Whatever is left,
+-- all that the round brought is recorded, or nothing of it.
+pub record Stops (site : WatchedSite) (before : List (List ℕ)) (held held_now : Option (List ℕ)) (lines : List (List ℕ)) (may_leave : List ℕ → Type 0) : Type 0 where
+  pub done : List (List ℕ)
+  pub round : List (List ℕ)
+  pub others : List (List ℕ)
+  pub parts : lines ≡ done ++ (round ++ others)
+  pub replied : AppendsIfTold held held_now (replies_to site done)
+  pub leaves : (file : List ℕ) → may_leave file → IsRecordedBeforeOrAfter (before ++ brought site.core done) (brought (watched_site_after site done).core round) file
+
+-- The same of what was read, after these first bytes were written. All lines that were ended before the last read have their
+-- replies, so the round is one of the last read. That gave at most so many bytes.
+pub record StopsReading (most : ℕ) (first : List ℕ) (site : WatchedSite) (before : List (List ℕ)) (unread unread_now held held_now : Option (List ℕ)) (may_leave : List ℕ → Type 0) : Type 0 where
+  pub front : List ℕ
+  pub last : List ℕ
+  pub taken : HasReadIfTold unread unread_now (front ++ last)
+  pub most_last : length last ≤ most
+  pub done : List (List ℕ)
+  pub round : List (List ℕ)
+  pub others : List (List ℕ)
+  pub parts : ended_lines (front ++ last) ≡ (ended_lines front ++ done) ++ (round ++ others)
+  pub replied : AppendsIfTold held held_now (first ++ replies_to site (ended_lines front ++ done))
+  pub leaves : (file : List ℕ) → may_leave file
+      → IsRecordedBeforeOrAfter (before ++ brought site.core (ended_lines front ++ done)) (brought (watched_site_after site (ended_lines front ++ done)).core round) file
+
+-- Some bytes were read. Each line of them has its reply, and what is behind them waits. No request has too many bytes.
 pub record Served (site now : WatchedSite) (sound : Type 0) (before after : List (List ℕ)) (unread unread_now held held_now : Option (List ℕ)) (pending : List ℕ) : Type 0 where
   pub read : List ℕ
   pub taken : HasReadIfTold unread unread_now read
   pub behind : IsBehind read pending
   pub within : are_within read ≡ true
+  pub short : length pending ≤ most_request
   pub replied : Replied site now sound before after held held_now (ended_lines read)
 
 -- ---- faults

@@ -3,11 +3,11 @@ ghost use Rattle.std.specs.Prelude.{◌≡◌, ◌+◌, ◌≤◌, ◌++◌, ◌
 ghost use Rattle.sqlite_disk.specs.Disk.{MoreFaults};
 ghost use Rattle.sct_streams.specs.Stream.{AppendsIfTold, AppendsPrefixIfTold};
 ghost use Rattle.sct_journal.specs.Kept.{ended_lines, recorded};
-ghost use Rattle.sct_keeper.specs.Keepers.{IsKeeper, core_of_keeper, keeper_disk, watched_site_of};
+ghost use Rattle.sct_keeper.specs.Keepers.{IsFull, IsKeeper, core_of_keeper, keeper_disk, watched_site_of};
 ghost use Rattle.sct_requests.specs.Questions.{answer_asked, watched_after};
 ghost use Rattle.sct_requests.specs.Steps.{is_question_line};
 ghost use Rattle.sct_serve.specs.Replies.{question_reply};
-ghost use Rattle.sct_serve.specs.Serving.{EndsAnswering, HasNoQuestion, IsGreetingFault, Leaves, Replied, asked, failed_writes};
+ghost use Rattle.sct_serve.specs.Serving.{EndsAnswering, HasNoQuestion, IsGreetingFault, Leaves, Replied, Stops, asked, failed_writes};
 ghost use Rattle.sct_journal.specs.declared.error.JournalError.TheVariants as journal;
 ghost use Rattle.sct_keeper.specs.declared.fault.KeeperError.TheVariants as error;
 ghost use Rattle.sct_serve.specs.declared.fault.ServeFault.TheVariants as fault;
@@ -25,6 +25,7 @@ pub(crate) fn write<K: Sink>(sink: &mut K, bytes: &[u8]) -> Result<(), ServeFaul
     ensures written { OnOk result (AppendsIfTold (K.state sink.old).held (K.state sink.new).held bytes.now) }
     ensures cut_off { OnErr result (AppendsPrefixIfTold (K.state sink.old).held (K.state sink.new).held bytes.now) }
     ensures quiet { OnOk result ((K.state sink.new).failures ≡ (K.state sink.old).failures) }
+    ensures unwritten { OnErr result ((K.state sink.new).failures ≡ (K.state sink.old).failures → K.state sink.new ≡ K.state sink.old) }
     ensures counted { IfErr result (λ e. (e ≡ fault.Write) × ((K.state sink.new).failures ≡ (K.state sink.old).failures + 1)) }
 {
     match write_all(sink, bytes) {
@@ -52,6 +53,9 @@ fn answer_lines<D: Disk, K: Sink>(
     ensures quiet { OnOk result ((K.state sink.new).failures ≡ (K.state sink.old).failures) }
     ensures counted { IfErr result (λ e. (K.state sink.new).failures ≡ (K.state sink.old).failures + failed_writes e) }
     ensures failed { IfErr result (λ e. e ≡ fault.Keeper (error.Journal journal.Disk) → MoreFaults (D.Disk.faults (keeper_disk keeper.old)) (D.Disk.faults (keeper_disk keeper.new))) }
+    ensures full { IfErr result (λ e. e ≡ fault.Keeper (error.Journal journal.Full) → IsFull D.Disk.seen D.Disk.is_clean (keeper_disk keeper.new)) }
+    ensures stops { (K.state sink.new).failures ≡ (K.state sink.old).failures → IsTrue (D.Disk.is_clean (keeper_disk keeper.old)) → Stops (watched_site_of keeper.old) (recorded (D.Disk.seen (keeper_disk keeper.old)))
+        (K.state sink.old).held (K.state sink.new).held (ended_lines lines.now) (D.Disk.may_leave (keeper_disk keeper.new)) }
     ensures faults { D.Disk.faults (keeper_disk keeper.old) ≤ D.Disk.faults (keeper_disk keeper.new) }
     ensures errors { IfErr result EndsAnswering }
 {
@@ -66,6 +70,7 @@ fn write_text<K: Sink>(alloc: Global, text: &[u8], sink: &mut K) -> Result<(), S
     ensures written { OnOk result (AppendsIfTold (K.state sink.old).held (K.state sink.new).held (question_reply (Ok text.now))) }
     ensures cut_off { OnErr result (AppendsPrefixIfTold (K.state sink.old).held (K.state sink.new).held (question_reply (Ok text.now))) }
     ensures quiet { OnOk result ((K.state sink.new).failures ≡ (K.state sink.old).failures) }
+    ensures unwritten { OnErr result ((K.state sink.new).failures ≡ (K.state sink.old).failures → K.state sink.new ≡ K.state sink.old) }
     ensures counted { IfErr result (λ e. (K.state sink.new).failures ≡ (K.state sink.old).failures + failed_writes e) }
     ensures errors { IfErr result IsGreetingFault }
 {
@@ -97,6 +102,7 @@ fn answer_question<D: Disk, K: Sink>(
     ensures keeper { IsKeeper D.Disk.seen D.Disk.may_leave D.Disk.is_usable D.Disk.is_clean keeper.new }
     ensures disk { keeper_disk keeper.new ≡ keeper_disk keeper.old }
     ensures quiet { OnOk result ((K.state sink.new).failures ≡ (K.state sink.old).failures) }
+    ensures unwritten { OnErr result ((K.state sink.new).failures ≡ (K.state sink.old).failures → K.state sink.new ≡ K.state sink.old) }
     ensures counted { IfErr result (λ e. (K.state sink.new).failures ≡ (K.state sink.old).failures + failed_writes e) }
     ensures errors { IfErr result IsGreetingFault }
 {
@@ -129,6 +135,9 @@ fn answer_if_asked<D: Disk, K: Sink>(
     ensures quiet { OnOk result ((K.state sink.new).failures ≡ (K.state sink.old).failures) }
     ensures counted { IfErr result (λ e. (K.state sink.new).failures ≡ (K.state sink.old).failures + failed_writes e) }
     ensures failed { IfErr result (λ e. e ≡ fault.Keeper (error.Journal journal.Disk) → MoreFaults (D.Disk.faults (keeper_disk keeper.old)) (D.Disk.faults (keeper_disk keeper.new))) }
+    ensures full { IfErr result (λ e. e ≡ fault.Keeper (error.Journal journal.Full) → IsFull D.Disk.seen D.Disk.is_clean (keeper_disk keeper.new)) }
+    ensures stops { (K.state sink.new).failures ≡ (K.state sink.old).failures → IsTrue (D.Disk.is_clean (keeper_disk keeper.old)) → Stops (watched_site_of keeper.old) (recorded (D.Disk.seen (keeper_disk keeper.old)))
+        (K.state sink.old).held (K.state sink.new).held (asked (option_map (λ line. line.now) question.entry)) (D.Disk.may_leave (keeper_disk keeper.new)) }
     ensures faults { D.Disk.faults (keeper_disk keeper.old) ≤ D.Disk.faults (keeper_disk keeper.new) }
     ensures errors { IfErr result EndsAnswering }
 {
@@ -159,6 +168,9 @@ pub(crate) fn answer_text<D: Disk, K: Sink>(
     ensures quiet { OnOk result ((K.state sink.new).failures ≡ (K.state sink.old).failures) }
     ensures counted { IfErr result (λ e. (K.state sink.new).failures ≡ (K.state sink.old).failures + failed_writes e) }
     ensures failed { IfErr result (λ e. e ≡ fault.Keeper (error.Journal journal.Disk) → MoreFaults (D.Disk.faults (keeper_disk keeper.old)) (D.Disk.faults (keeper_disk keeper.new))) }
+    ensures full { IfErr result (λ e. e ≡ fault.Keeper (error.Journal journal.Full) → IsFull D.Disk.seen D.Disk.is_clean (keeper_disk keeper.new)) }
+    ensures stops { (K.state sink.new).failures ≡ (K.state sink.old).failures → IsTrue (D.Disk.is_clean (keeper_disk keeper.old)) → Stops (watched_site_of keeper.old) (recorded (D.Disk.seen (keeper_disk keeper.old)))
+        (K.state sink.old).held (K.state sink.new).held (ended_lines text.now) (D.Disk.may_leave (keeper_disk keeper.new)) }
     ensures faults { D.Disk.faults (keeper_disk keeper.old) ≤ D.Disk.faults (keeper_disk keeper.new) }
     ensures errors { IfErr result EndsAnswering }
 {

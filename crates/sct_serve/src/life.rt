@@ -5,12 +5,12 @@ ghost use Rattle.sct_journal.specs.Fronts.{front_in};
 ghost use Rattle.sct_journal.specs.Kept.{recorded};
 ghost use Rattle.sct_journal.specs.declared.error.JournalError.TheVariants as journal;
 ghost use Rattle.sct_journal.specs.declared.front.Front.TheVariants as front;
-ghost use Rattle.sct_keeper.specs.Keepers.{IsKeeper, IsUntouched, core_of_keeper, header, keeper_disk, watched_site_of};
+ghost use Rattle.sct_keeper.specs.Keepers.{IsFull, IsKeeper, IsUntouched, core_of_keeper, header, keeper_disk, watched_site_of};
 ghost use Rattle.sct_keeper.specs.declared.fault.KeeperError.TheVariants as error;
 ghost use Rattle.sct_site.specs.Cores.{is_open};
 ghost use Rattle.sct_streams.specs.Stream.{AppendsIfTold, AppendsPrefixIfTold};
-ghost use Rattle.sct_serve.specs.Lives.{LifeLeaves, output_of, ready_line, watched_site_kept};
-ghost use Rattle.sct_serve.specs.Serving.{EndsAfterOpening, EndsLife, HasReadTooLong, IsForeignFault, IsGreetingFault, failed_reads, failed_writes};
+ghost use Rattle.sct_serve.specs.Lives.{LifeLeaves, LifeStops, output_of, ready_line, watched_site_kept};
+ghost use Rattle.sct_serve.specs.Serving.{AreShort, EndsAfterOpening, EndsLife, HasReadShort, HasReadTooLong, IsForeignFault, IsGreetingFault, failed_reads, failed_writes};
 ghost use Rattle.sct_serve.specs.declared.fault.ServeFault.TheVariants as fault;
 
 use crate::answering::write;
@@ -56,6 +56,7 @@ fn greet<D: Disk, K: Sink>(
     ensures keeper { IsKeeper D.Disk.seen D.Disk.may_leave D.Disk.is_usable D.Disk.is_clean keeper.new }
     ensures disk { keeper_disk keeper.new ≡ keeper_disk keeper.old }
     ensures quiet { OnOk result ((K.state sink.new).failures ≡ (K.state sink.old).failures) }
+    ensures unwritten { OnErr result ((K.state sink.new).failures ≡ (K.state sink.old).failures → K.state sink.new ≡ K.state sink.old) }
     ensures counted { IfErr result (λ e. (K.state sink.new).failures ≡ (K.state sink.old).failures + failed_writes e) }
     ensures errors { IfErr result IsGreetingFault }
 {
@@ -79,12 +80,18 @@ fn greet_and_serve<D: Disk, R: Source, K: Sink>(
         → LifeLeaves (watched_site_of keeper.old) (recorded (D.Disk.seen (keeper_disk keeper.old)))
         (R.state source.old).left (R.state source.new).left (K.state sink.old).held (K.state sink.new).held c }
     ensures clean { D.Disk.is_clean (keeper_disk keeper.new) ≡ D.Disk.is_clean (keeper_disk keeper.old) }
+    ensures short { OnOk result (IfSome (R.state source.old).left AreShort) }
+    ensures short_before { HasReadShort 1048576 (R.state source.old).left (R.state source.new).left }
     ensures too_long { result ≡ Err fault.TooLong → HasReadTooLong (R.state source.old).left (R.state source.new).left }
     ensures reads { OnOk result ((R.state source.new).failures ≡ (R.state source.old).failures) }
     ensures failed_reads { IfErr result (λ e. (R.state source.new).failures ≡ (R.state source.old).failures + failed_reads e) }
     ensures writes { OnOk result ((K.state sink.new).failures ≡ (K.state sink.old).failures) }
     ensures failed_writes { IfErr result (λ e. (K.state sink.new).failures ≡ (K.state sink.old).failures + failed_writes e) }
     ensures failed { IfErr result (λ e. e ≡ fault.Keeper (error.Journal journal.Disk) → MoreFaults (D.Disk.faults (keeper_disk keeper.old)) (D.Disk.faults (keeper_disk keeper.new))) }
+    ensures full { IfErr result (λ e. e ≡ fault.Keeper (error.Journal journal.Full) → IsFull D.Disk.seen D.Disk.is_clean (keeper_disk keeper.new)) }
+    ensures stops { (K.state sink.new).failures ≡ (K.state sink.old).failures → IsTrue (D.Disk.is_clean (keeper_disk keeper.old)) → LifeStops
+        (watched_site_of keeper.old) (recorded (D.Disk.seen (keeper_disk keeper.old)))
+        (R.state source.old).left (R.state source.new).left (K.state sink.old).held (K.state sink.new).held (D.Disk.may_leave (keeper_disk keeper.new)) }
     ensures faults { D.Disk.faults (keeper_disk keeper.old) ≤ D.Disk.faults (keeper_disk keeper.new) }
     ensures errors { IfErr result EndsAfterOpening }
 {
@@ -133,6 +140,15 @@ pub fn serve<D: Disk, R: Source, K: Sink>(
         → LifeLeaves (watched_site_kept number group (recorded (D.Disk.seen disk))) (recorded (D.Disk.seen disk))
         (R.state source.old).left (R.state source.new).left (K.state sink.old).held (K.state sink.new).held c) }
 
+    // Unless a write failed, no line of the round under way has a reply when the life ends. All that the round brought is recorded,
+    // or nothing of it.
+    ensures stops { IfOk result (λ left. (K.state sink.new).failures ≡ (K.state sink.old).failures → IsTrue (D.Disk.is_clean left) → LifeStops
+        (watched_site_kept number group (recorded (D.Disk.seen disk))) (recorded (D.Disk.seen disk))
+        (R.state source.old).left (R.state source.new).left (K.state sink.old).held (K.state sink.new).held (D.Disk.may_leave left)) }
+    ensures stops_err { IfErr result (λ left. (K.state sink.new).failures ≡ (K.state sink.old).failures → IsTrue (D.Disk.is_clean left.1) → LifeStops
+        (watched_site_kept number group (recorded (D.Disk.seen disk))) (recorded (D.Disk.seen disk))
+        (R.state source.old).left (R.state source.new).left (K.state sink.old).held (K.state sink.new).held (D.Disk.may_leave left.1)) }
+
     // A file that is not the journal of this site is left as it is, and nothing is read or written.
     ensures untouched { IfErr result (λ left. IsForeignFault left.0 → IsUntouched D.Disk.seen D.Disk.may_leave disk left.1) }
     ensures silent { IfErr result (λ left. IsForeignFault left.0 → (source.new ≡ source.old) × (sink.new ≡ sink.old)) }
@@ -143,12 +159,17 @@ pub fn serve<D: Disk, R: Source, K: Sink>(
     ensures bad_site { IfErr result (λ left. left.0 ≡ fault.Keeper error.BadSite → is_open number group ≡ false) }
     ensures begun { OnOk result (is_open number group ≡ true) }
 
+    // A request with too many bytes ends the life as soon as it has them: at `Ok` none has, and none had before the last
+    // read.
+    ensures short { OnOk result (IfSome (R.state source.old).left AreShort) }
+    ensures short_before { HasReadShort 1048576 (R.state source.old).left (R.state source.new).left }
     ensures too_long { IfErr result (λ left. left.0 ≡ fault.TooLong → HasReadTooLong (R.state source.old).left (R.state source.new).left) }
     ensures reads { OnOk result ((R.state source.new).failures ≡ (R.state source.old).failures) }
     ensures failed_reads { IfErr result (λ left. (R.state source.new).failures ≡ (R.state source.old).failures + failed_reads left.0) }
     ensures writes { OnOk result ((K.state sink.new).failures ≡ (K.state sink.old).failures) }
     ensures failed_writes { IfErr result (λ left. (K.state sink.new).failures ≡ (K.state sink.old).failures + failed_writes left.0) }
     ensures failed { IfErr result (λ left. left.0 ≡ fault.Keeper (error.Journal journal.Disk) → MoreFaults (D.Disk.faults disk) (D.Disk.faults left.1)) }
+    ensures full { IfErr result (λ left. left.0 ≡ fault.Keeper (error.Journal journal.Full) → IsFull D.Disk.seen D.Disk.is_clean left.1) }
     ensures errors { IfErr result (λ left. EndsLife left.0) }
 {
     let mut keeper = match Keeper::open(alloc, number, group, disk) {

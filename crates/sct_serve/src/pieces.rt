@@ -1,11 +1,11 @@
 //! The lines that one read ended, and what waits for its line feed.
-ghost use Rattle.std.specs.Prelude.{◌≡◌, ◌⊎◌, ◌≤◌, ◌+◌, ◌++◌, ◌∷◌, [], Err, List, ℕ, IfErr, IfNone, IfSome, IsTrue, OnOk, true};
+ghost use Rattle.std.specs.Prelude.{◌≡◌, ◌⊎◌, ◌≤◌, ◌+◌, ◌++◌, ◌∷◌, [], Err, List, ℕ, length, IfErr, IfNone, IfSome, IsTrue, OnOk, true};
 ghost use Rattle.sqlite_disk.specs.Disk.{MoreFaults};
 ghost use Rattle.sct_journal.specs.Kept.{ended_lines, recorded};
 ghost use Rattle.sct_journal.specs.declared.error.JournalError.TheVariants as journal;
 ghost use Rattle.sct_keeper.specs.declared.fault.KeeperError.TheVariants as error;
-ghost use Rattle.sct_keeper.specs.Keepers.{IsKeeper, keeper_disk, watched_site_of};
-ghost use Rattle.sct_serve.specs.Serving.{EndsTaking, HasTooLong, IsBehind, Leaves, Replied, are_within, failed_writes};
+ghost use Rattle.sct_keeper.specs.Keepers.{IsFull, IsKeeper, keeper_disk, watched_site_of};
+ghost use Rattle.sct_serve.specs.Serving.{EndsTaking, HasTooLong, IsBehind, Leaves, Replied, Stops, are_within, failed_writes, most_request};
 ghost use Rattle.sct_serve.specs.declared.fault.ServeFault.TheVariants as fault;
 
 use crate::answering::answer_text;
@@ -35,6 +35,7 @@ fn wait(pending: &mut Vec<u8>, piece: &[u8]) -> Result<(), ServeFault>
     requires waits { ended_lines pending.old.items ≡ [] }
     requires none { ended_lines piece.now ≡ [] }
     ensures waits { OnOk result (IsBehind (pending.old.items ++ piece.now) pending.new.items) }
+    ensures short { OnOk result (length pending.new.items ≤ most_request) }
     ensures lines { ended_lines (pending.old.items ++ piece.now) ≡ [] }
     ensures too_long { result ≡ Err fault.TooLong → (rest : List ℕ) × (IsBehind (pending.old.items ++ piece.now) rest × HasTooLong (pending.old.items ++ piece.now) rest) }
     ensures counted { IfErr result (λ e. (e ≡ fault.TooLong) ⊎ (e ≡ fault.Memory)) }
@@ -62,6 +63,7 @@ fn take_ended<D: Disk, K: Sink>(
         (recorded (D.Disk.seen (keeper_disk keeper.old))) (recorded (D.Disk.seen (keeper_disk keeper.new)))
         (K.state sink.old).held (K.state sink.new).held (ended_lines ((pending.old.items ++ ended.now) ++ rest.now))) }
     ensures waits { OnOk result (IsBehind ((pending.old.items ++ ended.now) ++ rest.now) pending.new.items) }
+    ensures short { OnOk result (length pending.new.items ≤ most_request) }
     ensures within { OnOk result (are_within ((pending.old.items ++ ended.now) ++ rest.now) ≡ true) }
     ensures too_long { result ≡ Err fault.TooLong → (left : List ℕ) × (IsBehind ((pending.old.items ++ ended.now) ++ rest.now) left × HasTooLong ((pending.old.items ++ ended.now) ++ rest.now) left) }
     ensures keeper { OnOk result (IsKeeper D.Disk.seen D.Disk.may_leave D.Disk.is_usable D.Disk.is_clean keeper.new) }
@@ -72,6 +74,9 @@ fn take_ended<D: Disk, K: Sink>(
     ensures quiet { OnOk result ((K.state sink.new).failures ≡ (K.state sink.old).failures) }
     ensures counted { IfErr result (λ e. (K.state sink.new).failures ≡ (K.state sink.old).failures + failed_writes e) }
     ensures failed { IfErr result (λ e. e ≡ fault.Keeper (error.Journal journal.Disk) → MoreFaults (D.Disk.faults (keeper_disk keeper.old)) (D.Disk.faults (keeper_disk keeper.new))) }
+    ensures full { IfErr result (λ e. e ≡ fault.Keeper (error.Journal journal.Full) → IsFull D.Disk.seen D.Disk.is_clean (keeper_disk keeper.new)) }
+    ensures stops { (K.state sink.new).failures ≡ (K.state sink.old).failures → IsTrue (D.Disk.is_clean (keeper_disk keeper.old)) → Stops (watched_site_of keeper.old) (recorded (D.Disk.seen (keeper_disk keeper.old)))
+        (K.state sink.old).held (K.state sink.new).held (ended_lines ((pending.old.items ++ ended.now) ++ rest.now)) (D.Disk.may_leave (keeper_disk keeper.new)) }
     ensures faults { D.Disk.faults (keeper_disk keeper.old) ≤ D.Disk.faults (keeper_disk keeper.new) }
     ensures errors { IfErr result EndsTaking }
 {
@@ -102,6 +107,7 @@ pub(crate) fn take_piece<D: Disk, K: Sink>(
         (recorded (D.Disk.seen (keeper_disk keeper.old))) (recorded (D.Disk.seen (keeper_disk keeper.new)))
         (K.state sink.old).held (K.state sink.new).held (ended_lines (pending.old.items ++ piece.now))) }
     ensures waits { OnOk result (IsBehind (pending.old.items ++ piece.now) pending.new.items) }
+    ensures short { OnOk result (length pending.new.items ≤ most_request) }
     ensures within { OnOk result (are_within (pending.old.items ++ piece.now) ≡ true) }
     ensures too_long { result ≡ Err fault.TooLong → (rest : List ℕ) × (IsBehind (pending.old.items ++ piece.now) rest × HasTooLong (pending.old.items ++ piece.now) rest) }
     ensures keeper { OnOk result (IsKeeper D.Disk.seen D.Disk.may_leave D.Disk.is_usable D.Disk.is_clean keeper.new) }
@@ -112,6 +118,9 @@ pub(crate) fn take_piece<D: Disk, K: Sink>(
     ensures quiet { OnOk result ((K.state sink.new).failures ≡ (K.state sink.old).failures) }
     ensures counted { IfErr result (λ e. (K.state sink.new).failures ≡ (K.state sink.old).failures + failed_writes e) }
     ensures failed { IfErr result (λ e. e ≡ fault.Keeper (error.Journal journal.Disk) → MoreFaults (D.Disk.faults (keeper_disk keeper.old)) (D.Disk.faults (keeper_disk keeper.new))) }
+    ensures full { IfErr result (λ e. e ≡ fault.Keeper (error.Journal journal.Full) → IsFull D.Disk.seen D.Disk.is_clean (keeper_disk keeper.new)) }
+    ensures stops { (K.state sink.new).failures ≡ (K.state sink.old).failures → IsTrue (D.Disk.is_clean (keeper_disk keeper.old)) → Stops (watched_site_of keeper.old) (recorded (D.Disk.seen (keeper_disk keeper.old)))
+        (K.state sink.old).held (K.state sink.new).held (ended_lines (pending.old.items ++ piece.now)) (D.Disk.may_leave (keeper_disk keeper.new)) }
     ensures faults { D.Disk.faults (keeper_disk keeper.old) ≤ D.Disk.faults (keeper_disk keeper.new) }
     ensures errors { IfErr result EndsTaking }
 {

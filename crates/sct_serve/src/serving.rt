@@ -4,10 +4,10 @@ ghost use Rattle.sqlite_disk.specs.Disk.{MoreFaults};
 ghost use Rattle.sct_journal.specs.Kept.{ended_lines, recorded};
 ghost use Rattle.sct_journal.specs.declared.error.JournalError.TheVariants as journal;
 ghost use Rattle.sct_keeper.specs.declared.fault.KeeperError.TheVariants as error;
-ghost use Rattle.sct_keeper.specs.Keepers.{IsKeeper, keeper_disk, watched_site_of};
+ghost use Rattle.sct_keeper.specs.Keepers.{IsFull, IsKeeper, keeper_disk, watched_site_of};
 ghost use Rattle.sct_streams.specs.Stream.{AppendsIfTold, HasReadIfTold};
 ghost use Rattle.sct_serve.specs.Replies.{replies_to};
-ghost use Rattle.sct_serve.specs.Serving.{EndsAfterOpening, HasReadTooLong, LeavesOf, Served, failed_reads, failed_writes};
+ghost use Rattle.sct_serve.specs.Serving.{AreShort, EndsAfterOpening, HasReadShort, HasReadTooLong, LeavesOf, Served, StopsReading, failed_reads, failed_writes};
 ghost use Rattle.sct_serve.specs.declared.fault.ServeFault.TheVariants as fault;
 
 use crate::fault::ServeFault;
@@ -22,7 +22,7 @@ use std::alloc::Global;
 fn read_piece<R: Source>(source: &mut R, piece: &mut [u8]) -> Result<usize, ServeFault>
     requires { 0 < length piece.old }
     ensures fits { IfOk result (λ n. n ≤ length piece.new) }
-    ensures room { 0 < length piece.new }
+    ensures room { length piece.new ≡ length piece.old }
     ensures read { IfOk result (λ n. HasReadIfTold (R.state source.old).left (R.state source.new).left (take n piece.new)) }
     ensures end { IfOk result (λ n. n ≡ 0 → IfSome (R.state source.old).left (λ _. (R.state source.new).left ≡ Some [])) }
     ensures failed { OnErr result (HasReadIfTold (R.state source.old).left (R.state source.new).left []) }
@@ -55,6 +55,10 @@ pub(crate) fn serve_input<D: Disk, R: Source, K: Sink>(
         (recorded (D.Disk.seen (keeper_disk keeper.old))) (recorded (D.Disk.seen (keeper_disk keeper.new)))
         (R.state source.old).left (R.state source.new).left (K.state sink.old).held (K.state sink.new).held pending) }
     ensures keeper { OnOk result (IsKeeper D.Disk.seen D.Disk.may_leave D.Disk.is_usable D.Disk.is_clean keeper.new) }
+
+    // A request with too many bytes ends the service as soon as it has them.
+    ensures short { OnOk result (IfSome (R.state source.old).left AreShort) }
+    ensures short_before { HasReadShort (length piece.old) (R.state source.old).left (R.state source.new).left }
     ensures too_long { result ≡ Err fault.TooLong → HasReadTooLong (R.state source.old).left (R.state source.new).left }
 
     // Whatever is left, all that replied lines brought is recorded, and of what was read no more than a front.
@@ -67,6 +71,12 @@ pub(crate) fn serve_input<D: Disk, R: Source, K: Sink>(
     ensures writes { OnOk result ((K.state sink.new).failures ≡ (K.state sink.old).failures) }
     ensures failed_writes { IfErr result (λ e. (K.state sink.new).failures ≡ (K.state sink.old).failures + failed_writes e) }
     ensures failed { IfErr result (λ e. e ≡ fault.Keeper (error.Journal journal.Disk) → MoreFaults (D.Disk.faults (keeper_disk keeper.old)) (D.Disk.faults (keeper_disk keeper.new))) }
+    ensures full { IfErr result (λ e. e ≡ fault.Keeper (error.Journal journal.Full) → IsFull D.Disk.seen D.Disk.is_clean (keeper_disk keeper.new)) }
+
+    // Unless a write failed, no line of the round under way has a reply, and what it brought is recorded whole or not at all.
+    ensures stops { (K.state sink.new).failures ≡ (K.state sink.old).failures → IsTrue (D.Disk.is_clean (keeper_disk keeper.old)) → StopsReading (length piece.old) []
+        (watched_site_of keeper.old) (recorded (D.Disk.seen (keeper_disk keeper.old)))
+        (R.state source.old).left (R.state source.new).left (K.state sink.old).held (K.state sink.new).held (D.Disk.may_leave (keeper_disk keeper.new)) }
     ensures faults { D.Disk.faults (keeper_disk keeper.old) ≤ D.Disk.faults (keeper_disk keeper.new) }
     ensures errors { IfErr result EndsAfterOpening }
 {

@@ -1,6 +1,6 @@
 //! The archive text.
 
-ghost use Rattle.std.specs.Prelude.{◌≡◌, ◌++◌, ◌∷◌, [], All, map, refl, IfOk, OnOk};
+ghost use Rattle.std.specs.Prelude.{◌≡◌, ◌*◌, ◌≤◌, ◌++◌, ◌∷◌, [], All, length, map, refl, IfOk, OnOk};
 ghost use Rattle.std.specs.Arc.{arc_value};
 ghost use Rattle.std.specs.List.{flat_map};
 ghost use Rattle.sct_json.specs.Writing.{written_text};
@@ -231,7 +231,9 @@ fn push_messages(
 }
 
 // Room in bytes for the lines of these identities. Most lines are shorter. A text that grows would be copied.
-fn room_for(identities: &[Identity]) -> usize {
+fn room_for(identities: &[Identity]) -> usize
+    ensures { result ≤ length identities.now * 640 }
+{
     identities.len().saturating_mul(BYTES_OF_A_LINE)
 }
 

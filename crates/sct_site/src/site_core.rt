@@ -1,9 +1,10 @@
 //! The core of one site.
 
-ghost use Rattle.std.specs.Prelude.{◌≡◌, ◌∷◌, ◌++◌, ◌<◌, ◌≤◌, ◌^◌, ℕ, [], true, false, None, vec_len, vec_capacity, filter, length, nat_eq, nat_lt, OnOk, OnErr, IfOk, IfErr, MatchOption};
+ghost use Rattle.std.specs.Prelude.{◌≡◌, ◌∷◌, ◌++◌, ◌<◌, ◌≤◌, ◌^◌, ℕ, [], true, false, None, vec_len, vec_capacity, filter, length, nat_eq, nat_lt, IsOk, OnOk, OnErr, IfOk, IfErr, MatchOption};
 ghost use Rattle.std.specs.Arc.{arc_value};
 ghost use Rattle.std.specs.FinSet as set;
-ghost use Rattle.sct_delta.specs.Entries.{IsArrivals, IsDelta, held_from, messages_of};
+ghost use Rattle.sct_message.specs.Sets.{messages_in};
+ghost use Rattle.sct_delta.specs.Entries.{IsArrivals, IsDelta, held_from, log_of, messages_of};
 ghost use Rattle.sct_delta.specs.Logs.{HasRoom, HoldSame, KeepsEmptyIfDue, KeepsNoEmpty};
 ghost use Rattle.sct_delta.specs.Refusals.{has_site};
 ghost use Rattle.sct_delta.specs.Vectors.{count_in};
@@ -21,7 +22,7 @@ use std::marker::Model;
 use std::sync::Arc;
 
 // Makes room for one more entry of an origin, in its log and among the arrivals. Returns whether the archive was found
-// to hold the message instead. It is asked only if there is no room, since a message that is held needs none.
+// to hold the message instead. It is asked only if there is no room, since a message that is held needs none, and no memory.
 fn is_held_without_room(
     archive: &Archive,
     logs: &mut Logs,
@@ -34,6 +35,7 @@ fn is_held_without_room(
     ensures same { HoldSame logs.new logs.old }
     ensures entries { arrivals.new.items ≡ arrivals.old.items }
     ensures held { IfOk result (λ held. held ≡ true → set.contains archive.now message.now ≡ true) }
+    ensures repeat { set.contains archive.now message.now ≡ true → IsOk result }
     ensures room { IfOk result (λ held. held ≡ false → HasRoom logs.new origin) }
     ensures place { IfOk result (λ held. held ≡ false → vec_len arrivals.new < vec_capacity arrivals.new) }
     ensures kept { OnOk result (set.contains archive.now message.now ≡ true
@@ -135,9 +137,16 @@ impl SiteCore {
         &self.arrivals
     }
 
+    /// The messages of the entries of an origin, in the order of their numbers. O(log origins).
+    pub fn log(&self, origin: u16) -> &[Arc<Message>]
+        ensures { messages_in result.now ≡ log_of origin self.now.arrivals }
+    {
+        self.logs.log(origin)
+    }
+
     /// Takes a message. It becomes the next own entry, unless the site holds it from any origin.
-    /// Error: `Memory` (40), with the site unchanged. The cost is one look-up in the archive and one addition in the logs.
-    /// If there is no room for one more entry, it is two look-ups.
+    /// Error: `Memory` (40), with the site unchanged. A repeat asks for no memory. The cost is one look-up in the archive and
+    /// one addition in the logs. If there is no room for one more entry, it is two look-ups.
     pub fn take(&mut self, message: Arc<Message>) -> Result<Took, DeltaFault>
         ensures answer { IfOk result (λ took. took ≡ took_by self.old (arc_value message)) }
         ensures number { self.new.number ≡ self.old.number }

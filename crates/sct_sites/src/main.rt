@@ -12,6 +12,7 @@ use std::process::ExitCode;
 use std::sync::ledger::Blank;
 
 fn main(rt: HostRuntime) -> ExitCode {
+    let mut left = None;
     ExitCode::from(run_over_std::<_, _, _, _, _, _, Brand, Brand, Brand, Brand>(
         &rt,
         rt.alloc(),
@@ -25,5 +26,6 @@ fn main(rt: HostRuntime) -> ExitCode {
         (rt.stdout(), Blank::new(1)),
         (rt.stderr(), Blank::new(1)),
         Blank::new(1),
+        &mut left,
     ))
 }

@@ -1,4 +1,4 @@
-//! A test program. It does what standard input says at archives, views, worlds, groups of sites and desks, and prints
+//! A test program. It does what standard input says at archives, views, groups of sites and desks, and prints
 //! the answers. Its first word says at which.
 //!
 //! `archives`: lines. A message, in its JSON form, goes into the list. `add` adds the list to the archive, and prints
@@ -11,10 +11,6 @@
 //! status text and the totals text of the view. `new` starts with a view of no message and an empty batch, and
 //! prints `new`. `form <JSON text>` reads a message, and prints its written form, or else `unread` and the number
 //! of the fault, or `unwritten` and that number.
-//!
-//! `worlds`: scripts, separated by a record separator (the byte 30). For each script it prints the lines that
-//! report the refused ones, or `fault 64` if the input is not a script, and then its replay. A line of a
-//! record separator follows each of the two.
 //!
 //! `groups`: lines. `site <number> <group>` begins a site. `take <JSON text>` makes the last site take a message, and
 //! `hold <origin> <number> <JSON text>` makes it accept that one entry. `settle` settles the sites, prints how it ended
@@ -50,12 +46,13 @@
 
 mod archives;
 mod desks;
+mod groups;
 mod views;
-mod worlds;
 
 use anyhow::{Result, bail};
 use archives::try_archives;
 use desks::try_desks;
+use groups::try_groups;
 use std::alloc::Global;
 use std::env;
 use std::io::{BufRead, BufReader, BufWriter, Write};
@@ -63,7 +60,6 @@ use std::sync::Wait;
 use std::thread::Threads;
 use std::time::Clock;
 use views::try_views;
-use worlds::{try_groups, try_worlds};
 
 // Does what the words say.
 fn try_words<R: Threads + Wait + Clock + Sync, B: BufRead + Drop, W: Write>(
@@ -77,7 +73,6 @@ fn try_words<R: Threads + Wait + Clock + Sync, B: BufRead + Drop, W: Write>(
         [_, word] => match word.as_str() {
             "archives" => try_archives(alloc, reader, out),
             "views" => try_views(alloc, reader, out),
-            "worlds" => try_worlds(alloc, reader, out),
             "groups" => try_groups(alloc, reader, out),
             _ => bail!("no trial of that name"),
         },

@@ -99,7 +99,7 @@ pub fn run(alloc: Global, sites: u16, events: &[Event]) -> Result<Ran, WorldFaul
 /// Errors: `BadSite` (44) if `sites` is not 1 to 1024, or if the world does not have this site; out of memory (40).
 ///
 /// This is the whole promise of convergence. The texts and the contradictions are those of exactly the
-/// messages that the site took or accepted.
+/// messages that the site took or accepted. The program does not call it; users of the library can.
 pub fn answers_after(
     alloc: Global,
     sites: u16,
@@ -129,6 +129,7 @@ pub fn answers_after(
 
 /// Runs events in a new world of `sites` sites, and returns a site's report on a bank's list for a settlement day. The
 /// report is that of exactly the messages that the site took or accepted. The errors are those of `answers_after`.
+/// The program does not call it; users of the library can.
 pub fn report_after<R: Threads + Sync>(
     rt: &R,
     alloc: Global,

@@ -1,9 +1,10 @@
 //! The text of a version vector: `-`, or pairs of an origin and its count, as in `1:2,3:1`.
-ghost use Rattle.std.specs.Prelude.{◌≡◌, ◌<◌, ◌∷◌, [], List, codes, length, nat_eq, option_and_then, option_map, position, string_bytes, IfOk, IfSome, MatchOption};
+ghost use Rattle.std.specs.Prelude.{◌≡◌, ◌<◌, ◌∷◌, [], List, codes, length, nat_eq, option_and_then, option_map, position, string_bytes, true, IfOk, IfSome, MatchOption};
 ghost use Rattle.std.specs.Cmp.Lexicographic.{pointwise};
 ghost use Rattle.std.specs.List.{slice_split};
+ghost use Rattle.sct_delta.specs.Sites.{is_site};
 ghost use Rattle.sct_delta.specs.Vectors.{count_in};
-ghost use Rattle.sct_delta.specs.VectorText.{CountsTheSame, IsReadBack, Pair, counts_of, is_colon, is_comma, joined_pairs, origin_named, pair_in, pairs_among, pairs_in, vector_in, vector_of_pairs, vector_text, with_pair};
+ghost use Rattle.sct_delta.specs.VectorText.{CountsTheSame, IsReadBack, Pair, counts_of, is_colon, is_comma, joined_pairs, origin_of_text, origin_named, pair_in, pairs_among, pairs_in, vector_in, vector_of_pairs, vector_text, with_pair};
 
 use crate::fault::DeltaFault;
 use crate::sites::{MOST_SITES, is_site};
@@ -20,12 +21,22 @@ pub fn a_written_vector_is_read_back()
 
 // The origin of this number, or none if no site has it.
 fn origin_named(number: u64) -> Option<u16>
-    ensures { result ≡ origin_named number }
+    ensures origin { result ≡ origin_named number }
+    ensures site { IfSome result (λ origin. is_site origin ≡ true) }
 {
     match u16::try_from(number) {
         Ok(origin) if is_site(origin) => Some(origin),
         _ => None,
     }
+}
+
+/// The origin that a text names by its number in decimal. None if no site has that number, or if the text is no number.
+pub fn origin_of(text: &[u8]) -> Option<u16>
+    ensures origin { result ≡ origin_of_text text.now }
+    ensures site { IfSome result (λ origin. is_site origin ≡ true) }
+{
+    let number = number_of(text)?;
+    origin_named(number)
 }
 
 // The place of the first colon.
@@ -52,7 +63,7 @@ fn pair_of(text: &[u8]) -> Option<(u16, u64)>
     let at = colon(text)?;
     let (origin, _) = text.split_at(at);
     let (_, count) = text.split_at(at + 1);
-    let origin = origin_named(number_of(origin)?)?;
+    let origin = origin_of(origin)?;
     let count = number_of(count)?;
     Some((origin, count))
 }

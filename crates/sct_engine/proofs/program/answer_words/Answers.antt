@@ -6,7 +6,7 @@ use Rattle.sct_engine.proofs.program.answer_words.Goals as goal
 
 pub returns-in_err-words : goal.returns-in_err-words
 returns-in_err-words g c =
-    unasked _ _ _ _ _ _ _ _ (words_told c.args.words) c.in_err-words.field-0.0 _ c.from_residual.result (ap words_told c.in_err-words.was) c.from_residual.ensures.1
+    unasked _ _ _ _ _ _ _ _ _ (words_told c.args.words) c.in_err-words.field-0.0 _ c.from_residual.result (ap words_told c.in_err-words.was) c.from_residual.ensures.1
 
 pub returns : goal.returns
 returns g c = record {

@@ -18,6 +18,8 @@ returns c = record {
   site = λ program number group journal. record { no_error = refl; found = refl };
   site_with_deltas = λ program number group journal one other. record { no_error = refl; found = refl };
   vector = λ program number group journal. record { no_error = refl; found = refl };
+  digests_written = λ program. record { no_error = refl; found = refl };
+  digests = λ program number group journal one. record { no_error = refl; found = refl };
   cut = λ program number group have journal one. record { no_error = refl; found = refl };
   cut_all = λ program. record { no_error = refl; found = refl };
   site_written = λ program. record { no_error = refl; found = refl };

@@ -8,9 +8,10 @@ use Rattle.sct_engine.proofs.serving.serve_site.Goals as goal
 
 pub returns-in-Ok-clause-life : goal.returns-in-Ok-clause-life
 returns-in-Ok-clause-life g c =
-    inr (lived_on _ _ _ _ _ _ _ _ _ _ _ _ c.in_ok-disk.ensures.holds (record {
+    inr (lived_on _ _ _ _ _ _ _ _ _ _ _ _ _ c.in_ok-disk.ensures.holds (record {
       opened = c.in_ok-disk.disk;
-      left = c.in-Ok.field-0;
+      left = c.in-Ok.disk;
+      handed = refl;
       reason = None;
       holds = refl;
       clean = c.in_ok-disk.ensures.clean;
@@ -19,21 +20,26 @@ returns-in-Ok-clause-life g c =
       replies = c.in-Ok.ensures.replies;
       read = c.in-Ok.ensures.read;
       lasts = c.in-Ok.ensures.crash;
+      stops = c.in-Ok.ensures.stops;
       foreign = tt;
       no_journal = λ is. absurd cc;
       other_site = λ is. absurd cc;
       no_site = λ is. absurd cc;
+      short = c.in-Ok.ensures.short;
+      short_before = c.serve.ensures.short_before;
       too_long = λ is. absurd cc;
       reads = omega (arith, c.in-Ok.ensures.reads);
       writes = omega (arith, c.in-Ok.ensures.writes);
       disk_failed = λ is. absurd cc;
+      disk_full = λ is. absurd cc;
     }))
 
-pub returns-clause-life : goal.returns-clause-life
-returns-clause-life g c =
-    inr (lived_on _ _ _ _ _ _ _ _ _ _ _ _ c.in_ok-disk.ensures.holds (record {
+pub returns-in-Err-clause-life : goal.returns-in-Err-clause-life
+returns-in-Err-clause-life g c =
+    inr (lived_on _ _ _ _ _ _ _ _ _ _ _ _ _ c.in_ok-disk.ensures.holds (record {
       opened = c.in_ok-disk.disk;
-      left = c.in-Err.field-0-1;
+      left = c.in-Err.disk;
+      handed = refl;
       reason = Some c.in-Err.fault;
       holds = refl;
       clean = c.in_ok-disk.ensures.clean;
@@ -42,12 +48,16 @@ returns-clause-life g c =
       replies = tt;
       read = tt;
       lasts = c.in-Err.ensures.crash_err;
+      stops = c.in-Err.ensures.stops_err;
       foreign = λ is. (c.in-Err.ensures.untouched is, ap g.R.Source.state (c.in-Err.ensures.silent is).0, ap g.O.Sink.state (c.in-Err.ensures.silent is).1);
       no_journal = λ is. let same : c.in-Err.fault ≡ serve.Keeper (keeper.Journal journal.NoJournal) = cc in c.in-Err.ensures.no_journal same;
       other_site = λ is. let same : c.in-Err.fault ≡ serve.Keeper (keeper.Journal journal.OtherSite) = cc in c.in-Err.ensures.other_site same;
       no_site = λ is. let same : c.in-Err.fault ≡ serve.Keeper keeper.BadSite = cc in c.in-Err.ensures.bad_site same;
+      short = tt;
+      short_before = c.serve.ensures.short_before;
       too_long = λ is. let same : c.in-Err.fault ≡ serve.TooLong = cc in c.in-Err.ensures.too_long same;
       reads = c.in-Err.ensures.failed_reads;
       writes = c.in-Err.ensures.failed_writes;
       disk_failed = λ is. let same : c.in-Err.fault ≡ serve.Keeper (keeper.Journal journal.Disk) = cc in c.in-Err.ensures.failed same;
+      disk_full = λ is. let same : c.in-Err.fault ≡ serve.Keeper (keeper.Journal journal.Full) = cc in c.in-Err.ensures.full same;
     }))

@@ -8,10 +8,10 @@ use Rattle.sct_json.proofs.reading.read_plain.Goals as goal
 pub returns-in-Ok : goal.returns-in-Ok
 returns-in-Ok c =
     object_of_kind (members_of c.args.object.now) c.in-Some.kind c.shape_in.result c.in_ok-elements.elements c.in-Some.ensures c.in_ok-elements.ensures c.shape_in.ensures c.if-not-has_keys_in.ensures
-    ∙ c.in-Ok.ensures
+    ∙ c.in-Ok.ensures.read
 
 pub returns-in-Err : goal.returns-in-Err
 returns-in-Err c =
     subst (FailsWhere true c.in-Err.fault)
     (sym (object_of_kind (members_of c.args.object.now) c.in-Some.kind c.shape_in.result c.in_ok-elements.elements c.in-Some.ensures c.in_ok-elements.ensures c.shape_in.ensures c.if-not-has_keys_in.ensures))
-    c.in-Err.ensures
+    c.in-Err.ensures.read

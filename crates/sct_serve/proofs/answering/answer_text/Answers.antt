@@ -1,10 +1,10 @@
 -- A round more, or what is left of it.
-use Rattle.std.proofs.Common.{◌∙◌, ◌++◌, sym, subst, IsTrue, arith, append_assoc}
+use Rattle.std.proofs.Common.{◌≡◌, ◌∙◌, [], ◌++◌, ap, sym, subst, IsTrue, arith, append_assoc, rules}
 use Rattle.std.specs.Prelude.{option_map}
 use Rattle.sct_journal.specs.Kept.{ended_lines, recorded}
 use Rattle.sct_keeper.specs.Keepers.{keeper_disk, watched_site_of}
 use Rattle.sct_serve.specs.Serving.{asked}
-use Rattle.sct_serve.proofs.LeaveLemmas.{in_part_more, leaves_after, leaves_in_part, replied_under}
+use Rattle.sct_serve.proofs.LeaveLemmas.{in_part_all, in_part_more, leaves_after, leaves_in_part, no_lines, replied_under, stops_after, stops_all, stops_in_part}
 use Rattle.sct_serve.proofs.answering.answer_text.Goals as goal
 
 pub returns-in_err-answer_lines-clause-crash : goal.returns-in_err-answer_lines-clause-crash
@@ -59,3 +59,42 @@ loop-rest-preserved g c =
       quiet = c.in_ok-answer_if_asked.ensures.quiet ∙ c.in_ok-answer_lines.ensures.quiet ∙ inv.quiet;
       faults = omega (arith, inv.faults, c.answer_lines.ensures.faults, c.answer_if_asked.ensures.faults);
     }
+
+pub returns-in_err-answer_lines-clause-stops : goal.returns-in_err-answer_lines-clause-stops
+returns-in_err-answer_lines-clause-stops g c quiet clean =
+    let inv = c.loop-rest.invariant in
+    let here : IsTrue (g.D.Disk.is_clean (keeper_disk c.loop-rest.keeper)) = subst (λ b. IsTrue b) (sym inv.clean) clean in
+    let lines = ended_lines c.first_round-round.result.lines.now in
+    let question = asked (option_map (λ line. line.now) c.first_round-round.result.question) in
+    let rest = ended_lines c.first_round-round.result.rest.now in
+    stops_in_part (watched_site_of c.args.keeper.now) (watched_site_of c.loop-rest.keeper) (IsTrue (g.D.Disk.is_clean (keeper_disk c.args.keeper.now)))
+    (recorded (g.D.Disk.seen (keeper_disk c.args.keeper.now))) (recorded (g.D.Disk.seen (keeper_disk c.loop-rest.keeper)))
+    (g.K.Sink.state c.args.sink.now).held (g.K.Sink.state c.loop-rest.sink).held (g.K.Sink.state c.answer_lines.new.sink).held
+    c.args.text.now c.loop-rest.rest.now lines (question ++ rest) _ inv.part clean
+    (c.first_round-round.ensures.parts ∙ append_assoc lines question rest) (c.answer_lines.ensures.stops (omega (arith, quiet, inv.quiet)) here)
+
+pub returns-in_err-answer_if_asked-clause-stops : goal.returns-in_err-answer_if_asked-clause-stops
+returns-in_err-answer_if_asked-clause-stops g c quiet clean =
+    let inv = c.loop-rest.invariant in
+    let here : IsTrue (g.D.Disk.is_clean (keeper_disk c.loop-rest.keeper)) = subst (λ b. IsTrue b) (sym inv.clean) clean in
+    let next : IsTrue (g.D.Disk.is_clean (keeper_disk c.answer_lines.new.keeper)) = subst (λ b. IsTrue b) (sym c.answer_lines.ensures.clean) here in
+    let lines = ended_lines c.first_round-round.result.lines.now in
+    let question = asked (option_map (λ line. line.now) c.first_round-round.result.question) in
+    let rest = ended_lines c.first_round-round.result.rest.now in
+    stops_in_part (watched_site_of c.args.keeper.now) (watched_site_of c.loop-rest.keeper) (IsTrue (g.D.Disk.is_clean (keeper_disk c.args.keeper.now)))
+    (recorded (g.D.Disk.seen (keeper_disk c.args.keeper.now))) (recorded (g.D.Disk.seen (keeper_disk c.loop-rest.keeper)))
+    (g.K.Sink.state c.args.sink.now).held (g.K.Sink.state c.loop-rest.sink).held (g.K.Sink.state c.answer_if_asked.new.sink).held
+    c.args.text.now c.loop-rest.rest.now (lines ++ question) rest _ inv.part clean c.first_round-round.ensures.parts
+    (stops_after (watched_site_of c.loop-rest.keeper) (recorded (g.D.Disk.seen (keeper_disk c.loop-rest.keeper))) (watched_site_of c.answer_lines.new.keeper)
+    (IsTrue (g.D.Disk.is_clean (keeper_disk c.loop-rest.keeper))) (recorded (g.D.Disk.seen (keeper_disk c.answer_lines.new.keeper)))
+    (g.K.Sink.state c.loop-rest.sink).held (g.K.Sink.state c.answer_lines.new.sink).held (g.K.Sink.state c.answer_if_asked.new.sink).held
+    lines question _ c.in_ok-answer_lines.ensures.replied here (c.answer_if_asked.ensures.stops (omega (arith, quiet, inv.quiet, c.in_ok-answer_lines.ensures.quiet)) next))
+
+pub returns-clause-stops : goal.returns-clause-stops
+returns-clause-stops g c quiet clean =
+    let inv = c.loop-rest.invariant in
+    let none : ended_lines c.loop-rest.rest.now ≡ [] = search (rules, no_lines) in
+    stops_all (watched_site_of c.args.keeper.now) (recorded (g.D.Disk.seen (keeper_disk c.args.keeper.now))) (watched_site_of c.loop-rest.keeper)
+    (IsTrue (g.D.Disk.is_clean (keeper_disk c.args.keeper.now))) (recorded (g.D.Disk.seen (keeper_disk c.loop-rest.keeper)))
+    (g.K.Sink.state c.args.sink.now).held (g.K.Sink.state c.loop-rest.sink).held (ended_lines c.args.text.now) _ (in_part_all _ _ _ _ _ _ _ _ _ inv.part none) clean
+    (λ f left. ap recorded (inv.keeper.settled.durable f left))

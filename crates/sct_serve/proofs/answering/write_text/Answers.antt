@@ -1,5 +1,5 @@
 -- A text, cut off in one of its three parts or whole.
-use Rattle.std.proofs.Common.{◌∙◌, List, ℕ, subst}
+use Rattle.std.proofs.Common.{◌∙◌, List, ℕ, arith, subst}
 use Rattle.sct_streams.specs.Stream.{AppendsIfTold, AppendsPrefixIfTold}
 use Rattle.sct_serve.proofs.ReplyLemmas.{text_cut_first, text_cut_second, text_cut_third, text_written}
 use Rattle.sct_serve.proofs.answering.write_text.Goals as goal
@@ -30,3 +30,13 @@ returns-clause-cut_off g c =
     let first = (g.K.Sink.state c.write.new.sink).held in
     text_cut_third c.args.text.now held first (g.K.Sink.state c.write-2.new.sink).held (g.K.Sink.state c.write-3.new.sink).held
     (subst (λ (l : List ℕ). AppendsIfTold held first l) (c.as_bytes.ensures.value ∙ c.in_ok-head.ensures) c.in_default.ensures.written) c.in_default-write.ensures.written c.in-Err-write-2.ensures.cut_off
+
+pub returns-in-Err-clause-unwritten : goal.returns-in-Err-clause-unwritten
+returns-in-Err-clause-unwritten g c quiet = absurd (omega (arith, quiet, c.in-Err.ensures.counted.1))
+
+pub returns-in-Err-write-clause-unwritten : goal.returns-in-Err-write-clause-unwritten
+returns-in-Err-write-clause-unwritten g c quiet = absurd (omega (arith, quiet, c.in_default.ensures.quiet, c.in-Err-write.ensures.counted.1))
+
+pub returns-clause-unwritten : goal.returns-clause-unwritten
+returns-clause-unwritten g c quiet =
+    absurd (omega (arith, quiet, c.in_default.ensures.quiet, c.in_default-write.ensures.quiet, c.in-Err-write-2.ensures.counted.1))

@@ -4,7 +4,7 @@ use Rattle.std.specs.List.{list_all}
 use Rattle.sct_journal.specs.Kept.{ended_lines, recorded}
 use Rattle.sct_keeper.specs.Keepers.{keeper_disk, watched_site_of}
 use Rattle.sct_serve.specs.Serving.{IsBehind}
-use Rattle.sct_serve.proofs.LeaveLemmas.{leaves_none, leaves_of, replied_of}
+use Rattle.sct_serve.proofs.LeaveLemmas.{leaves_none, leaves_of, replied_of, stops_none, stops_of}
 use Rattle.sct_serve.proofs.PieceLemmas.{behind_whole, fits, lines_on}
 use Rattle.sct_serve.proofs.pieces.take_ended.Goals as goal
 
@@ -85,3 +85,36 @@ returns-clause-within g c =
     let same = lines_on c.args.pending.now.items c.requires.ended.0 c.args.ended.now c.args.rest.now c.requires.ended.1 c.requires.rest in
     let text = c.deref.ensures.value ∙ c.in_ok-extend_from_slice.ensures.items in
     ap (list_all fits) (same ∙ sym (ap ended_lines text)) ∙ sym c.are_within.ensures ∙ c.if-not-are_within.false
+
+pub returns-in_err-extend_from_slice-clause-stops : goal.returns-in_err-extend_from_slice-clause-stops
+returns-in_err-extend_from_slice-clause-stops g c quiet clean =
+    stops_none (watched_site_of c.args.keeper.now) (recorded (g.D.Disk.seen (keeper_disk c.args.keeper.now))) (g.K.Sink.state c.args.sink.now).held _ _ (λ f left. ap recorded (c.requires.keeper.settled.durable f left))
+
+pub returns-then-not-are_within-clause-stops : goal.returns-then-not-are_within-clause-stops
+returns-then-not-are_within-clause-stops g c quiet clean =
+    stops_none (watched_site_of c.args.keeper.now) (recorded (g.D.Disk.seen (keeper_disk c.args.keeper.now))) (g.K.Sink.state c.args.sink.now).held _ _ (λ f left. ap recorded (c.requires.keeper.settled.durable f left))
+
+pub returns-then-rest-gt-MOST_REQUEST-clause-stops : goal.returns-then-rest-gt-MOST_REQUEST-clause-stops
+returns-then-rest-gt-MOST_REQUEST-clause-stops g c quiet clean =
+    stops_none (watched_site_of c.args.keeper.now) (recorded (g.D.Disk.seen (keeper_disk c.args.keeper.now))) (g.K.Sink.state c.args.sink.now).held _ _ (λ f left. ap recorded (c.requires.keeper.settled.durable f left))
+
+pub returns-in_err-answer_text-clause-stops : goal.returns-in_err-answer_text-clause-stops
+returns-in_err-answer_text-clause-stops g c quiet clean =
+    let same = lines_on c.args.pending.now.items c.requires.ended.0 c.args.ended.now c.args.rest.now c.requires.ended.1 c.requires.rest in
+    let text = c.deref-2.ensures.value ∙ c.in_ok-extend_from_slice.ensures.items in
+    stops_of (watched_site_of c.args.keeper.now) (recorded (g.D.Disk.seen (keeper_disk c.args.keeper.now))) (g.K.Sink.state c.args.sink.now).held (g.K.Sink.state c.answer_text.new.sink).held
+    (ended_lines c.deref-2.result.now) _ _ (ap ended_lines text ∙ sym same) (c.answer_text.ensures.stops quiet clean)
+
+pub returns-in_err-extend_from_slice-2-clause-stops : goal.returns-in_err-extend_from_slice-2-clause-stops
+returns-in_err-extend_from_slice-2-clause-stops g c quiet clean =
+    let same = lines_on c.args.pending.now.items c.requires.ended.0 c.args.ended.now c.args.rest.now c.requires.ended.1 c.requires.rest in
+    let text = c.deref-2.ensures.value ∙ c.in_ok-extend_from_slice.ensures.items in
+    stops_of (watched_site_of c.args.keeper.now) (recorded (g.D.Disk.seen (keeper_disk c.args.keeper.now))) (g.K.Sink.state c.args.sink.now).held (g.K.Sink.state c.answer_text.new.sink).held
+    (ended_lines c.deref-2.result.now) _ _ (ap ended_lines text ∙ sym same) (c.answer_text.ensures.stops quiet clean)
+
+pub returns-clause-stops : goal.returns-clause-stops
+returns-clause-stops g c quiet clean =
+    let same = lines_on c.args.pending.now.items c.requires.ended.0 c.args.ended.now c.args.rest.now c.requires.ended.1 c.requires.rest in
+    let text = c.deref-2.ensures.value ∙ c.in_ok-extend_from_slice.ensures.items in
+    stops_of (watched_site_of c.args.keeper.now) (recorded (g.D.Disk.seen (keeper_disk c.args.keeper.now))) (g.K.Sink.state c.args.sink.now).held (g.K.Sink.state c.answer_text.new.sink).held
+    (ended_lines c.deref-2.result.now) _ _ (ap ended_lines text ∙ sym same) (c.answer_text.ensures.stops quiet clean)

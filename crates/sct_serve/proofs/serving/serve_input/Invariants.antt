@@ -10,6 +10,7 @@ invariant-loop g l = record {
   keeper : IsKeeper g.D.Disk.seen g.D.Disk.may_leave g.D.Disk.is_usable g.D.Disk.is_clean l.keeper;
   clean : g.D.Disk.is_clean (keeper_disk l.keeper) ≡ g.D.Disk.is_clean (keeper_disk l.fn.keeper);
   room : 0 < length l.piece;
+  size : length l.piece ≡ length l.fn.piece;
   served : Served (watched_site_of l.fn.keeper) (watched_site_of l.keeper) (IsTrue (g.D.Disk.is_clean (keeper_disk l.fn.keeper)))
       (recorded (g.D.Disk.seen (keeper_disk l.fn.keeper))) (recorded (g.D.Disk.seen (keeper_disk l.keeper)))
       (g.R.Source.state l.fn.source).left (g.R.Source.state l.source).left (g.K.Sink.state l.fn.sink).held (g.K.Sink.state l.sink).held l.pending.items;

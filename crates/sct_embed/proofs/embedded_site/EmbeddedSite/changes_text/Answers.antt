@@ -13,6 +13,7 @@ invariant_of-self-2 c =
     record {
       shown = showing.shown;
       watched = watched_anew c.show_all.new.self.count c.self.inside.core.arrivals (record { asked = c.show_all.new.self.count; changed = c.new.result }) refl c.new.ensures.items;
+      digests = showing.digests;
     }
 
 pub returns-clause-answer : goal.returns-clause-answer

@@ -31,4 +31,5 @@ returns-clause-shown c =
       watched = watched_more was later k es c.requires.shown.within c.requires.watched
           (subst (λ (held : MessageSet). IsLater was held (messages_of (drop k es)) later) c.requires.shown.held
           (subst (λ (b : MessageSet). IsLater was c.args.self.now.view b later) batch c.in_ok-watch.ensures));
+      digests = c.requires.digests;
     }

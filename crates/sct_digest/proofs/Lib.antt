@@ -1,0 +1,5 @@
+-- The lemmas of digests.
+pub mod ChainLemmas
+pub mod KeepingLemmas
+pub mod ApartLemmas
+pub mod TextLemmas

@@ -1,0 +1,2 @@
+-- The law of written messages.
+pub mod ReadAgain

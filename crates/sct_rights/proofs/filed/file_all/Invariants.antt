@@ -1,0 +1,9 @@
+-- The messages so far are filed after those that were.
+use Rattle.std.proofs.Common.{List, ◌++◌, take}
+use Rattle.sct_message.specs.Sets.{messages_in}
+use Rattle.sct_message.specs.declared.draft.Draft.{Draft}
+use Rattle.sct_view.specs.Filed.{IsFiledBy}
+use Rattle.sct_rights.proofs.filed.file_all.Given as goal
+
+abbrev pub invariant-loop-message : goal.invariant-loop-message
+invariant-loop-message l = (ms : List Draft) → IsFiledBy l.initial.index ms → IsFiledBy l.index (ms ++ messages_in (take l.message-index l.messages))

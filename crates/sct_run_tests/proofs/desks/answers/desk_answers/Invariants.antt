@@ -1,5 +1,0 @@
--- The desk is of site 1, in a group of two, and of the history that was opened.
-use Rattle.sct_run_tests.proofs.desks.answers.desk_answers.Given as goal
-
-abbrev pub ghosts-expect_answers : goal.ghosts-expect_answers
-ghosts-expect_answers g a = record { book = a.history; number = 1; group = 2 }
