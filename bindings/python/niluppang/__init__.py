@@ -4,5 +4,6 @@ from ._library import library_version
 from ._site import Accepted, BytesSite, LinesTaken, Site, Taken, Transfer
 from ._version import __version__
 
-__all__ = ["Accepted", "BytesSite", "Closed", "DeltaRefused", "LibraryError", "LinesTaken", "MessageRefused", "NiluppangError",
+__all__ = ["Accepted", "BytesSite", "Closed", "DeltaRefused", "LibraryError", "LinesTaken",
+           "MessageRefused", "NiluppangError",
            "OutOfMemory", "Refused", "Site", "Taken", "Transfer", "__version__", "library_version"]

@@ -1,4 +1,5 @@
-"""The errors of a site. Each has the number, the place and the reason that the library reports, and the library's name of the number."""
+"""The errors of a site. Each has the number, the place and the reason that the library reports, and the library's name
+of the number."""
 from typing import Dict, Tuple, Type
 
 # the name and the meaning of each number, which the library has; they are read when it is opened
@@ -9,9 +10,10 @@ UNKNOWN = ("Unknown", "a number of a later version")
 class NiluppangError(Exception):
     """A call was refused, and changed nothing.
 
-    `number` and `name` say why, and `meaning` says it in some words (docs/users/codes.md has a remedy). `place` is the line, the record,
-    the transaction or the argument that is wrong, from 1, or 0 if the number has no place. `reason` is what the program prints, such as
-    `36 InstgAgt 1`. It is empty if there is no site to ask: it was not opened, or is closed. It is also empty if the call was not made.
+    `number` and `name` say why, and `meaning` says it in some words (docs/users/codes.md has a remedy). `place` is the
+    line, the record, the transaction or the argument that is wrong, from 1, or 0 if the number has no place. `reason`
+    is what the program prints, such as `36 InstgAgt 1`. It is empty if there is no site to ask: it was not opened, or
+    is closed. It is also empty if the call was not made.
     """
 
     def __init__(self, number: int, place: int = 0, reason: str = "") -> None:
@@ -29,7 +31,8 @@ class NiluppangError(Exception):
 
 
 class Refused(NiluppangError, ValueError):
-    """What came in is wrong: a message, a delta, a list, a vector or another argument. Numbers 31 to 38, 41 to 46, 48, 56, 72 and 73."""
+    """What came in is wrong: a message, a delta, a list, a vector or another argument. Numbers 31 to 38, 41 to 46, 48,
+    56, 72 and 73."""
 
 
 class MessageRefused(Refused):

@@ -19,18 +19,21 @@ class Handle(ctypes.Structure):
 
 
 class Outcome(ctypes.Structure):
-    _fields_ = [("ok", ctypes.c_bool), ("code", ctypes.c_uint8), ("place", ctypes.c_uint64), ("length", ctypes.c_size_t),
+    _fields_ = [("ok", ctypes.c_bool), ("code", ctypes.c_uint8),
+                ("place", ctypes.c_uint64), ("length", ctypes.c_size_t),
                 ("reserved", ctypes.c_uint64)]
 
 
 class TakenOutcome(ctypes.Structure):
-    _fields_ = [("ok", ctypes.c_bool), ("code", ctypes.c_uint8), ("is_repeat", ctypes.c_bool), ("place", ctypes.c_uint64),
+    _fields_ = [("ok", ctypes.c_bool), ("code", ctypes.c_uint8),
+                ("is_repeat", ctypes.c_bool), ("place", ctypes.c_uint64),
                 ("number", ctypes.c_uint64), ("reserved", ctypes.c_uint64)]
 
 
 class LinesOutcome(ctypes.Structure):
     _fields_ = [("ok", ctypes.c_bool), ("code", ctypes.c_uint8), ("place", ctypes.c_uint64), ("fresh", ctypes.c_uint64),
-                ("repeats", ctypes.c_uint64), ("refused", ctypes.c_uint64), ("length", ctypes.c_size_t), ("reserved", ctypes.c_uint64)]
+                ("repeats", ctypes.c_uint64), ("refused", ctypes.c_uint64), ("length", ctypes.c_size_t),
+                ("reserved", ctypes.c_uint64)]
 
 
 class AcceptedOutcome(ctypes.Structure):
@@ -38,7 +41,8 @@ class AcceptedOutcome(ctypes.Structure):
                 ("reserved", ctypes.c_uint64)]
 
 
-# a text goes in as its address and its length; c_char_p passes the address of the bytes themselves, so nothing is copied
+# a text goes in as its address and its length; c_char_p passes the address of the bytes themselves, so nothing is
+# copied
 TEXT = [ctypes.c_char_p, ctypes.c_size_t]
 ROOM = [ctypes.c_void_p, ctypes.c_size_t]
 COUNTS = [ctypes.POINTER(ctypes.c_uint64), ctypes.c_size_t]
@@ -49,12 +53,16 @@ CALLS: Dict[str, List[object]] = {
     "open": [Outcome, *GROUP], "restore": [Outcome, *GROUP, *TEXT, *TEXT], "close": [None],
     "take": [TakenOutcome, *TEXT], "take_lines": [LinesOutcome, *TEXT], "accept": [AcceptedOutcome, *TEXT],
     "counts": [Outcome, *COUNTS], "vector_text": [Outcome], "cut": [Outcome, *TEXT], "cut_above": [Outcome, *COUNTS],
-    "journal_text": [Outcome, ctypes.c_uint64], "newest_text": [Outcome, ctypes.c_uint64], "reading_text": [Outcome, *TEXT],
+    "entries": [Outcome, ctypes.c_uint16, ctypes.c_uint64, ctypes.c_uint64],
+    "digest": [Outcome, ctypes.c_uint16, ctypes.c_uint64],
+    "digests_text": [Outcome], "journal_text": [Outcome, ctypes.c_uint64],
+    "newest_text": [Outcome, ctypes.c_uint64], "reading_text": [Outcome, *TEXT],
     "evaluate": [Outcome], "archive_text": [Outcome], "status_text": [Outcome], "totals_text": [Outcome],
     "contradictions_text": [Outcome], "report": [Outcome, *TEXT, *TEXT, *TEXT], "kept_text": [Outcome, *TEXT],
     "closed_text": [Outcome, *TEXT], "transfer_text": [Outcome, *TEXT, *TEXT], "messages_text": [Outcome, *TEXT, *TEXT],
     "bank_totals": [Outcome, *TEXT], "changes": [Outcome],
-    "answer": [Outcome, *ROOM], "answer_part": [Outcome, ctypes.c_size_t, *ROOM], "answer_end": [Outcome], "why": [Outcome, *ROOM],
+    "answer": [Outcome, *ROOM], "answer_part": [Outcome, ctypes.c_size_t, *ROOM],
+    "answer_end": [Outcome], "why": [Outcome, *ROOM]
 }
 # of each other function, without sct_: the type of its result, and those of its arguments
 OTHERS: Dict[str, List[object]] = {

@@ -15,7 +15,7 @@ Text = TypeVar("Text", str, bytes)
 Given = Union[str, bytes, bytearray, memoryview, mmap.mmap]
 Self = TypeVar("Self", bound="BaseSite[Any]")
 
-BAD_SITE, BAD_VECTOR = 44, 72
+BAD_SITE, BAD_VECTOR, BAD_ARGUMENT = 44, 72, 73
 BYTES = (bytes, bytearray, memoryview, mmap.mmap)
 MOST = (1 << 64) - 1
 PART = 1 << 16  # bytes of an answer that are read at once, while its lines are iterated over
@@ -56,8 +56,8 @@ class Transfer(NamedTuple):
 def lent(text: Given) -> Tuple[Any, int]:
     """A text as two arguments of a call: where its bytes are, and how many they are.
 
-    Nothing is copied of bytes and of memory that can be written. Memory that can only be read, or has gaps, is copied. A lone surrogate
-    of a str becomes bytes that are not UTF-8, and are refused as such.
+    Nothing is copied of bytes and of memory that can be written. Memory that can only be read, or has gaps, is copied.
+    A lone surrogate of a str becomes bytes that are not UTF-8, and are refused as such.
     """
     if isinstance(text, str):
         text = text.encode("utf-8", "surrogatepass")
@@ -84,6 +84,16 @@ def counted(counts: Iterable[int]) -> Tuple[Any, int]:
     if any(not 0 <= count <= MOST for count in items):
         raise Refused(BAD_VECTOR)
     return (ctypes.c_uint64 * max(1, len(items)))(*items), len(items)
+
+
+def asked_for(origin: int, *more: int) -> Tuple[int, ...]:
+    """The numbers of a question about an origin as arguments of a call. The library refuses others that are not
+    valid."""
+    numbers = (operator.index(origin), *map(operator.index, more))
+    for place, (number, bits) in enumerate(zip(numbers, (16, 64, 64)), 1):
+        if not 0 <= number < 1 << bits:
+            raise Refused(BAD_ARGUMENT, place)
+    return numbers
 
 
 def how_many(count: int) -> Tuple[int]:
@@ -132,7 +142,8 @@ class BaseSite(Generic[Text]):
         self._library = library()
         self._refused: Optional[Text] = None
         self._number, self._group = site_number(number), site_number(group)
-        self._turn = threading.Lock()  # for each call on the handle, since the library takes what is in it while it runs
+        # for each call on the handle, since the library takes what is in it while it runs
+        self._turn = threading.Lock()
         self._answers = 0  # how many answers were made
         self._is_closed = True
         self._handle = Handle()
@@ -144,8 +155,9 @@ class BaseSite(Generic[Text]):
     def restore(cls: Type[Self], number: int, group: int, journal: Given, delta: Given = b"") -> Self:
         """A site that was there before.
 
-        The journal is its own messages, one JSON object a line, in the order of their numbers: what it took, but no repeat. The delta
-        is a cut that it kept or that a peer made. What is refused of the two is left out, and `refused_text` has it. Refusals: 44, 65.
+        The journal is its own messages, one JSON object a line, in the order of their numbers: what it took, but no
+        repeat. The delta is a cut that it kept or that a peer made. What is refused of the two is left out, and
+        `refused_text` has it. Refusals: 44, 65.
         """
         site = cls.__new__(cls)
         length = site._begin("restore", number, group, journal, delta)
@@ -164,8 +176,9 @@ class BaseSite(Generic[Text]):
 
     @property
     def refused_text(self) -> Optional[Text]:
-        """A line for each line of the journal that was refused at the restore, such as `file 1 line 8: 31`, and one for the delta,
-        such as `file 2: 41 3 0 7`. It is empty if nothing was refused, and None if the site was opened and not restored."""
+        """A line for each line of the journal that was refused at the restore, such as `file 1 line 8: 31`, and one for
+        the delta, such as `file 2: 41 3 0 7`. It is empty if nothing was refused, and None if the site was opened and
+        not restored."""
         return self._refused
 
     # ---- the end
@@ -196,7 +209,8 @@ class BaseSite(Generic[Text]):
         try:
             warn(f"unclosed {self!r}", ResourceWarning, source=self)
         finally:
-            # nobody holds the lock of a site that nobody has, but a child of fork may have been made while a thread held it
+            # nobody holds the lock of a site that nobody has, but a child of fork may have been made while a thread
+            # held it
             if self._turn.acquire(blocking=False):
                 self._end()
                 self._turn.release()
@@ -211,7 +225,8 @@ class BaseSite(Generic[Text]):
     # ---- what each call does. But for `_answered` and `_lines`, these need the lock
 
     def _called(self, call: str, *texts: Given, plain: Tuple[Any, ...] = ()) -> Any:
-        """What a call comes to, by plain arguments and by texts. When it returns, the memory of no text is lent any more."""
+        """What a call comes to, by plain arguments and by texts. When it returns, the memory of no text is lent any
+        more."""
         arguments = [argument for text in texts for argument in lent(text)]
         return getattr(self._library, "sct_raw_" + call)(self._handle, *plain, *arguments)
 
@@ -269,14 +284,15 @@ class BaseSite(Generic[Text]):
         """Copies what follows a place of an answer to some room. Returns how many bytes these are."""
         with self._turn:
             self._must_have(answer)
-            outcome = self._called("answer_part", plain=(place, ctypes.byref(ctypes.c_char.from_buffer(room)), len(room)))
+            outcome = self._called("answer_part",
+                                   plain=(place, ctypes.byref(ctypes.c_char.from_buffer(room)), len(room)))
             return int(self._checked("answer_part", outcome).length)
 
     # ---- messages and deltas in
 
     def take(self, message: Given) -> Taken:
-        """Takes the message that one JSON object is. If it is no repeat, it belongs into the journal, on one line, before it is
-        acknowledged and before the next cut. Refusals: 31 to 38, 46, 56, 65."""
+        """Takes the message that one JSON object is. If it is no repeat, it belongs into the journal, on one line,
+        before it is acknowledged and before the next cut. Refusals: 31 to 38, 46, 56, 65."""
         with self._turn:
             outcome = self._checked("take", self._called("take", message))
         return Taken(outcome.is_repeat, None if outcome.is_repeat else outcome.number)
@@ -298,8 +314,8 @@ class BaseSite(Generic[Text]):
     def reading(self, text: Given) -> Text:
         """What the site reads in a text of messages, one JSON object a line. It takes none of them.
 
-        It has a line for each line that is not blank: the message as the archive text has it, which begins with `{`, or why it is
-        refused, such as `line 8: 36 InstgAgt 1`. Refusals: 65.
+        It has a line for each line that is not blank: the message as the archive text has it, which begins with `{`, or
+        why it is refused, such as `line 8: 36 InstgAgt 1`. Refusals: 65.
         """
         return self._answered("reading_text", text)
 
@@ -317,7 +333,8 @@ class BaseSite(Generic[Text]):
         return self._answered("vector_text")
 
     def cut(self, above: Union[Given, Iterable[int]] = b"-") -> Text:
-        """The delta of what the site holds above a version vector: a text, or counts of site 1 first. Refusals: 44, 65, 72."""
+        """The delta of what the site holds above a version vector: a text, or counts of site 1 first. Refusals: 44, 65,
+        72."""
         if isinstance(above, (str, *BYTES)):
             return self._answered("cut", above)
         return self._answered("cut_above", plain=counted(above))
@@ -328,9 +345,33 @@ class BaseSite(Generic[Text]):
             return self._lines("cut", above)
         return self._lines("cut_above", plain=counted(above))
 
+    def entries(self, origin: int, above: int, most: int) -> Text:
+        """The delta of the messages of one site that are numbered above a count: as many as a text of `most` bytes has
+        room for, and at least one if there is one. `origin` is 1 to 1024, and `most` 1 to 67108863.
+
+        A site that asks so again and again, each time above what it holds, has all when a text without a message comes.
+        Refusals: 65, 73 (1: the origin, 2: the count, 3: the bytes).
+        """
+        return self._answered("entries", plain=asked_for(origin, above, most))
+
+    def digest(self, origin: int, count: int) -> Text:
+        """The digest of the first `count` messages of one site, as 64 small hexadecimal digits. `origin` is 1 to 1024.
+
+        The digest of no messages is 32 bytes of 0. That of some messages and one more is SHA-256 of the digest before
+        it and of the line of that message in the archive text. Two sites with one digest of a count hold the same
+        messages up to it. Refusals: 65, 73 (1: the origin, 2: the count is not valid, or above what the site holds).
+        """
+        return self._answered("digest", plain=asked_for(origin, count))
+
+    def digests_text(self) -> Text:
+        """A line such as `3:7:05c1..` for each site of which this one holds messages, ascending: its number, how many
+        messages of it are held, and the digest of all of them. Two sites with equal texts hold the same messages.
+        Refusals: 65."""
+        return self._answered("digests_text")
+
     def journal(self, above: int = 0) -> Text:
-        """The site's own messages that are numbered above a count, each on a line of the archive text: what a journal lacks that has so
-        many lines. Refusals: 65."""
+        """The site's own messages that are numbered above a count, each on a line of the archive text: what a journal
+        lacks that has so many lines. Refusals: 65."""
         return self._answered("journal_text", plain=how_many(above))
 
     def journal_lines(self, above: int = 0) -> Iterator[Text]:
@@ -338,15 +379,15 @@ class BaseSite(Generic[Text]):
         return self._lines("journal_text", plain=how_many(above))
 
     def newest(self, count: int) -> Text:
-        """The messages that came last, at most so many, each on a line of the archive text, in the order in which they came. After an
-        accept of `fresh` entries the newest `fresh` messages are those. Refusals: 65."""
+        """The messages that came last, at most so many, each on a line of the archive text, in the order in which they
+        came. After an accept of `fresh` entries the newest `fresh` messages are those. Refusals: 65."""
         return self._answered("newest_text", plain=how_many(count))
 
     # ---- answers on everything held
 
     def evaluate(self) -> None:
-        """Evaluates what is new, so that the next question does not have to. Each answer is what it is without this call, and the
-        answer that the site keeps stays. Refusals: 65."""
+        """Evaluates what is new, so that the next question does not have to. Each answer is what it is without this
+        call, and the answer that the site keeps stays. Refusals: 65."""
         with self._turn:
             self._checked("evaluate", self._called("evaluate"))
 
@@ -355,10 +396,12 @@ class BaseSite(Generic[Text]):
         return self._answered("archive_text")
 
     def archive_lines(self) -> Iterator[Text]:
-        """The lines of the archive text, each with its line feed. They are read in parts: no second copy of the text is made.
+        """The lines of the archive text, each with its line feed. They are read in parts: no second copy of the text is
+        made.
 
-        The answer is made by this call, and is the answer of the site then. A take or an accept while the lines are read does not change
-        them. After a call that makes another answer the next line is a RuntimeError, and after a close it is refused by 70.
+        The answer is made by this call, and is the answer of the site then. A take or an accept while the lines are
+        read does not change them. After a call that makes another answer the next line is a RuntimeError, and after a
+        close it is refused by 70.
         """
         return self._lines("archive_text")
 
@@ -379,12 +422,13 @@ class BaseSite(Generic[Text]):
         return self._answered("contradictions_text")
 
     def report(self, bank: Given, day: Given, rows: Given) -> Text:
-        """The report on a bank's list for a settlement day, YYYY-MM-DD. Refusals: 48, 65, 73 (1: the bank, 2: the day)."""
+        """The report on a bank's list for a settlement day, YYYY-MM-DD. Refusals: 48, 65, 73 (1: the bank, 2: the
+        day)."""
         return self._answered("report", bank, day, rows)
 
     def kept_text(self, day: Given) -> Text:
-        """The lines of the archive text that are kept on a day, YYYY-MM-DD: the messages on transfers that are not done before it, and
-        all that have an identity or a transfer in common with one that is kept. Refusals: 65, 73 (1)."""
+        """The lines of the archive text that are kept on a day, YYYY-MM-DD: the messages on transfers that are not done
+        before it, and all that have an identity or a transfer in common with one that is kept. Refusals: 65, 73 (1)."""
         return self._answered("kept_text", day)
 
     def closed_text(self, day: Given) -> Text:
@@ -406,9 +450,11 @@ class BaseSite(Generic[Text]):
         return self._answered("bank_totals", bank)
 
     def changes(self) -> List[Transfer]:
-        """The transfers whose lines may have changed since the call before. The first call begins the watch, and returns none.
+        """The transfers whose lines may have changed since the call before. The first call begins the watch, and
+        returns none.
 
-        It is a list, and no iterator: the site names each change once, and a caller that stopped early would lose the rest.
+        It is a list, and no iterator: the site names each change once, and a caller that stopped early would lose the
+        rest.
         """
         with self._turn:
             room: bytes = new_bytes(None, self._made("changes").length)
@@ -430,14 +476,16 @@ class BaseSite(Generic[Text]):
 
 
 class Site(BaseSite[str]):
-    """A site of a hub. Its texts are str. Texts that go in are str, bytes or other memory, into which nobody writes during the call.
+    """A site of a hub. Its texts are str. Texts that go in are str, bytes or other memory, into which nobody writes
+    during the call.
 
         with Site(1, 3) as site:
             site.take(message)
             print(site.status_text(), end="")
 
-    Several threads may use one site: a lock lets one call in at a time. A call gives other threads the interpreter while it runs.
-    Do not call a site from a signal handler, or in a child made by fork of a program with several threads.
+    Several threads may use one site: a lock lets one call in at a time. A call gives other threads the interpreter
+    while it runs. Do not call a site from a signal handler, or in a child made by fork of a program with several
+    threads.
     """
     _text = staticmethod(bytes.decode)
 

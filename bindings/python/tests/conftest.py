@@ -1,4 +1,5 @@
-"""What the tests share: the examples of the repository, messages that are made of one, and a look at the calls of the library."""
+"""What the tests share: the examples of the repository, messages that are made of one, and a look at the calls of the
+library."""
 import json
 import pathlib
 from typing import Any
@@ -12,11 +13,15 @@ EXAMPLES = TOP / "examples"
 # the stand-in of tests/standin never runs out of memory
 IS_STAND_IN = b"standin/library.py" in pathlib.Path(library()._name).read_bytes()
 INSTRUCTION = {
-    "MsgNmId": "pacs.008", "MsgId": "M1", "CreDtTm": "2024-05-02T10:00:00Z", "InstgAgt": "BANKDEFF", "IntrBkSttlmDt": "2024-05-02",
-    "SvcLvl": "SEPA", "LclInstrm": "INST", "EndToEndId": "E1", "TxId": "T1", "IntrBkSttlmAmt": "1.00", "Ccy": "EUR", "ChrgBr": "SLEV",
-    "Dbtr": "Jürgen Größler", "DbtrAcct": "DE89370400440532013000", "DbtrAgt": "BANKDEFF", "CdtrAgt": "BANQFRPP", "Cdtr": "Bo Maes",
+    "MsgNmId": "pacs.008", "MsgId": "M1", "CreDtTm": "2024-05-02T10:00:00Z", "InstgAgt": "BANKDEFF",
+    "IntrBkSttlmDt": "2024-05-02",
+    "SvcLvl": "SEPA", "LclInstrm": "INST", "EndToEndId": "E1", "TxId": "T1", "IntrBkSttlmAmt": "1.00",
+    "Ccy": "EUR", "ChrgBr": "SLEV",
+    "Dbtr": "Jürgen Größler", "DbtrAcct": "DE89370400440532013000", "DbtrAgt": "BANKDEFF",
+    "CdtrAgt": "BANQFRPP", "Cdtr": "Bo Maes",
     "CdtrAcct": "BE68539007547034"}
-RECALLED = {"CxlId": "R1", "OrgnlMsgId": "M1", "OrgnlMsgNmId": "pacs.008", "OrgnlTxId": "T1", "OrgnlIntrBkSttlmAmt": "1.00",
+RECALLED = {"CxlId": "R1", "OrgnlMsgId": "M1", "OrgnlMsgNmId": "pacs.008", "OrgnlTxId": "T1",
+            "OrgnlIntrBkSttlmAmt": "1.00",
             "Ccy": "EUR", "Rsn": "FRAD", "DbtrAgt": "BANKDEFF"}
 
 
@@ -50,7 +55,8 @@ def bytes_in(name: str) -> bytes:
 
 
 class Hooked:
-    """The library of a site. The names of its calls are written down. Before some of them a hook runs, by the arguments of the call.
+    """The library of a site. The names of its calls are written down. Before some of them a hook runs, by the arguments
+    of the call.
 
     What a hook returns is what the call comes to, which is then not made. A hook that returns None lets it be made.
     """

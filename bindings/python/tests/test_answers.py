@@ -1,5 +1,7 @@
-"""What a site answers beside the examples: transfers, banks, changes, journals, arrivals, readings, and lines that are read in parts."""
+"""What a site answers beside the examples: transfers, banks, changes, journals, arrivals, readings, and lines that are
+read in parts."""
 import gc
+import hashlib
 import io
 import json
 import threading
@@ -31,7 +33,8 @@ def test_one_transfer_and_one_bank(site):
     lines = bytes_in("bank-day.status").decode().splitlines(keepends=True)
     for line in lines:
         _, bank, tx, *_ = line.rstrip("\n").split("|")
-        assert site.transfer(bank, tx) == "".join(one for one in lines if one.rstrip("\n").split("|")[1:3] == [bank, tx])
+        assert site.transfer(bank, tx) == "".join(one for one in lines
+                                                  if one.rstrip("\n").split("|")[1:3] == [bank, tx])
     for line in bytes_in("bank-day.totals").decode().splitlines(keepends=True):
         assert site.bank_totals(line.split("|")[0]) == line
     assert site.transfer("NOBODYXX", "T9") == "T|NOBODYXXXXX|T9|UNKNOWN\n"
@@ -62,13 +65,15 @@ NOT_DONE = {"HH-0303", "LU,10", "LU20250310B3", "LU20250310B5", "LU20250310B6", 
 def test_what_is_kept_and_what_is_closed(kind):
     lines = bytes_in("bank-day.archive").decode().splitlines(keepends=True)
     on = [message.get("TxId", message.get("OrgnlTxId")) for message in map(json.loads, lines)]
-    kept, closed = ("".join(line for line, tx in zip(lines, on) if (tx in NOT_DONE) == is_kept) for is_kept in (True, False))
+    kept, closed = ("".join(line for line, tx in zip(lines, on) if (tx in NOT_DONE) == is_kept)
+                    for is_kept in (True, False))
     with SITES[kind](1, 1) as site:
         assert site.kept_text("2025-03-11") == site.closed_text("2025-03-11") == in_kind(kind, "")
         site.take_lines(bytes_in("bank-day.jsonl"))
         assert site.kept_text("2025-03-11") == site.answer() == in_kind(kind, kept)
         assert site.closed_text(b"2025-03-11") == site.answer() == in_kind(kind, closed)
-        assert (site.kept_text("2025-03-10"), site.closed_text("2025-03-10")) == (in_kind(kind, "".join(lines)), in_kind(kind, ""))
+        assert (site.kept_text("2025-03-10"), site.closed_text("2025-03-10")) == (in_kind(kind, "".join(lines)),
+                                                                                  in_kind(kind, ""))
         assert site.archive_text() == in_kind(kind, "".join(lines))
 
 
@@ -76,8 +81,9 @@ def test_what_is_kept_follows_what_comes():
     with Site(1, 1) as site:
         site.take(instruction(1))
         assert (site.kept_text("2025-01-01"), site.closed_text("2025-01-01")) == (archived(1), "")
-        accepted = {"MsgNmId": "pacs.002", "MsgId": "C1", "CreDtTm": "2024-12-31T23:59:59-05:00", "InstgAgt": "BANQFRPP",
-                    "OrgnlMsgId": "M1", "OrgnlMsgNmId": "pacs.008", "OrgnlTxId": "T1", "TxSts": "ACCP", "DbtrAgt": "BANKDEFF"}
+        accepted = {
+            "MsgNmId": "pacs.002", "MsgId": "C1", "CreDtTm": "2024-12-31T23:59:59-05:00", "InstgAgt": "BANQFRPP",
+            "OrgnlMsgId": "M1", "OrgnlMsgNmId": "pacs.008", "OrgnlTxId": "T1", "TxSts": "ACCP", "DbtrAgt": "BANKDEFF"}
         site.take(json.dumps(accepted))
         assert site.kept_text("2025-01-01") == "" and site.closed_text("2025-01-01") == site.archive_text()
         assert site.kept_text("2024-12-31") == site.archive_text() and site.closed_text("2024-12-31") == ""
@@ -107,6 +113,54 @@ def test_journal(kind):
         kept = site.journal(), site.cut()
     with Site.restore(2, 2, *kept) as again:
         assert (again.refused_text, again.vector_text()) == ("", "1:2,2:3")
+
+
+def written(origin, first, *numbers):
+    """A delta of instructions, as a site writes it."""
+    return f"delta 2\norigin {origin} {first} {len(numbers)}\n{''.join(map(archived, numbers))}end {len(numbers)}\n"
+
+
+@pytest.mark.parametrize("kind", SITES)
+def test_entries(kind):
+    both, one = written(1, 1, 9, 7, 4), written(1, 1, 9)
+    room, little = len(both.encode()), len(one.encode())
+    with SITES[kind](2, 3) as site:
+        assert site.entries(1, 0, 1) == in_kind(kind, "delta 2\nend 0\n")
+        site.accept(delta(1, 1, 9, 7, 4))
+        site.take(instruction(8))
+        assert site.entries(1, 0, 67108863) == site.entries(1, 0, room) == in_kind(kind, both)
+        assert site.entries(1, 0, room - 1) == in_kind(kind, written(1, 1, 9, 7))
+        assert site.entries(1, 0, little) == site.entries(1, 0, 1) == in_kind(kind, one)
+        assert site.entries(1, 1, room) == in_kind(kind, written(1, 2, 7, 4))
+        assert site.entries(2, 0, little) == in_kind(kind, written(2, 1, 8))
+        for origin, above in (1, 3), (1, (1 << 64) - 1), (2, 1), (3, 0), (1024, 0):
+            assert site.entries(origin, above, 100) == in_kind(kind, "delta 2\nend 0\n")
+
+
+def test_entries_until_none_come():
+    with Site(1, 2) as giver, Site(2, 2) as taker:
+        giver.take_lines("\n".join(map(instruction, range(1, 20))))
+        for most in range(500, 3000, 250):
+            taker.accept(giver.entries(1, taker.counts()[0], most))
+        while taker.accept(giver.entries(1, taker.counts()[0], 1)).fresh:
+            pass
+        assert taker.archive_text() == giver.archive_text() and taker.vector_text() == "1:19"
+
+
+@pytest.mark.parametrize("kind", SITES)
+def test_digests(kind):
+    chain = [bytes(32)]
+    for number in 9, 7, 4:
+        chain.append(hashlib.sha256(chain[-1] + archived(number).encode()).digest())
+    own = hashlib.sha256(bytes(32) + archived(8).encode()).hexdigest()
+    with SITES[kind](2, 3) as site:
+        assert site.digests_text() == in_kind(kind, "") and site.digest(1, 0) == in_kind(kind, "0" * 64)
+        site.accept(delta(1, 1, 9, 7))
+        assert site.digests_text() == in_kind(kind, f"1:2:{chain[2].hex()}\n")
+        site.accept(delta(1, 3, 4))
+        site.take(instruction(8))
+        assert [site.digest(1, count) for count in range(4)] == [in_kind(kind, digest.hex()) for digest in chain]
+        assert site.digests_text() == in_kind(kind, f"1:3:{chain[3].hex()}\n2:1:{own}\n")
 
 
 @pytest.mark.parametrize("kind", SITES)
@@ -141,8 +195,10 @@ def test_journal_has_no_repeats():
 @pytest.mark.parametrize("kind", SITES)
 def test_reading(kind):
     twice = '{"MsgId":"M9",' + instruction(4)[1:]
-    lines = [instruction(1), "", instruction(InstgAgt="b"), "x", " \t\r", instruction(1), twice, "[]", " " + instruction(2)]
-    right = [archived(1), "line 3: 36 InstgAgt 1\n", "line 4: 31\n", archived(1), archived(4), "line 8: 32\n", archived(2)]
+    lines = [instruction(1), "", instruction(InstgAgt="b"), "x", " \t\r", instruction(1), twice, "[]",
+             " " + instruction(2)]
+    right = [archived(1), "line 3: 36 InstgAgt 1\n", "line 4: 31\n", archived(1), archived(4), "line 8: 32\n",
+             archived(2)]
     with SITES[kind](1, 1) as site:
         assert site.reading("\n".join(lines)) == site.answer() == in_kind(kind, "".join(right))
         assert site.reading("") == site.reading(b" \n\n") == in_kind(kind, "")
@@ -150,7 +206,8 @@ def test_reading(kind):
 
 
 @pytest.mark.parametrize("call", ["journal", "journal_lines", "newest"])
-@pytest.mark.parametrize("number, error", [(-1, ValueError), (1 << 64, ValueError), (1.5, TypeError), ("1", TypeError), (None, TypeError)])
+@pytest.mark.parametrize("number, error", [(-1, ValueError), (1 << 64, ValueError), (1.5, TypeError), ("1", TypeError),
+                                           (None, TypeError)])
 def test_what_is_no_number_of_messages(site, call, number, error):
     with pytest.raises(error) as raised:
         getattr(site, call)(number)
@@ -250,11 +307,13 @@ def test_lines_are_read_in_parts(site, monkeypatch):
 
 
 KEPT = {"a take": lambda site: site.take(instruction()), "a repeat": lambda site: site.take(instruction()),
-        "an accept": lambda site: site.accept("delta 2\nend 0\n"), "counts": Site.counts, "evaluate": Site.evaluate, "answer": Site.answer,
+        "an accept": lambda site: site.accept("delta 2\nend 0\n"), "counts": Site.counts,
+        "evaluate": Site.evaluate, "answer": Site.answer,
         "a refused take": lambda site: pytest.raises(NiluppangError, site.take, "x"),
         "a refused question": lambda site: pytest.raises(NiluppangError, site.transfer, "", "")}
-REPLACED = {"a question": Site.totals_text, "the same question": Site.status_text, "lines of another": Site.archive_lines,
-            "take_lines": lambda site: site.take_lines(""), "changes": Site.changes, "an end of the answer": Site.answer_end}
+REPLACED = {
+    "a question": Site.totals_text, "the same question": Site.status_text, "lines of another": Site.archive_lines,
+    "take_lines": lambda site: site.take_lines(""), "changes": Site.changes, "an end of the answer": Site.answer_end}
 
 
 @pytest.mark.parametrize("part", [10, 1 << 16])

@@ -7,7 +7,8 @@ from conftest import EXAMPLES, TOP, bytes_in
 from niluppang import BytesSite, MessageRefused, Site
 
 STEMS = sorted(path.stem for path in EXAMPLES.glob("*.jsonl"))
-REPORTS = {"bank-day": ("LUTEFRPP", "2025-03-10"), "settlement-day": ("BANKDEFF", "2024-05-02"), "recall-batch": ("HANSDEHH", "2025-03-10")}
+REPORTS = {"bank-day": ("LUTEFRPP", "2025-03-10"), "settlement-day": ("BANKDEFF", "2024-05-02"),
+           "recall-batch": ("HANSDEHH", "2025-03-10")}
 SITES = {"str": Site, "bytes": BytesSite}
 
 
@@ -37,7 +38,8 @@ def test_lines_at_once(stem, kind):
 
 def refused_in(stem):
     """Why each refused line of an example is refused, by its number."""
-    return {int(number): why for number, why in re.findall(r"^line (\d+): (.*)$", bytes_in(stem + ".refused").decode(), re.M)}
+    return {int(number): why for number, why in re.findall(r"^line (\d+): (.*)$", bytes_in(stem + ".refused").decode(),
+                                                           re.M)}
 
 
 @pytest.mark.parametrize("stem", STEMS)
@@ -71,7 +73,8 @@ def test_reading(stem):
 @pytest.mark.parametrize("stem", STEMS)
 def test_restored(stem):
     with Site.restore(1, 1, bytes_in(stem + ".jsonl")) as site:
-        assert site.refused_text == "".join(f"file 1 {line}\n" for line in bytes_in(stem + ".refused").decode().splitlines())
+        assert site.refused_text == "".join(f"file 1 {line}\n"
+                                            for line in bytes_in(stem + ".refused").decode().splitlines())
         right(site, stem)
 
 

@@ -28,34 +28,55 @@ def without(key):
 
 # a call at the site below, the name and the place of its number, and the reason
 OF_MESSAGES = [
-    (["{"], "NotJson", 0, "31"), ([b"\xff"], "NotJson", 0, "31"), (['"\ud800"'], "NotJson", 0, "31"), (["[]"], "NotObject", 0, "32"),
-    (["{}"], "UnknownKind", 0, "33"), ([without("TxId")], "Missing", 0, "34 TxId"), ([instruction(TxId=1)], "NotText", 0, "35 TxId"),
-    ([instruction(TxId="a_b")], "Element", 0, "36 TxId 3"), ([instruction(InstgAgt="bankdeff")], "Element", 0, "36 InstgAgt 1"),
+    (["{"], "NotJson", 0, "31"), ([b"\xff"], "NotJson", 0, "31"), (['"\ud800"'], "NotJson", 0, "31"),
+    (["[]"], "NotObject", 0, "32"),
+    (["{}"], "UnknownKind", 0, "33"), ([without("TxId")], "Missing", 0, "34 TxId"),
+    ([instruction(TxId=1)], "NotText", 0, "35 TxId"),
+    ([instruction(TxId="a_b")], "Element", 0, "36 TxId 3"),
+    ([instruction(InstgAgt="bankdeff")], "Element", 0, "36 InstgAgt 1"),
     ([instruction(Purp="SALA")], "Extra", 0, '37 "Purp"'), ([instruction(**{'ä"\n': ""})], "Extra", 0, r'37 "ä\"\n"'),
     ([instruction(Ccy="USD")], "Rule", 0, "38 11"), ([recall()], "BadTransactions", 0, "46 0"),
-    ([recall(RECALLED, 7)], "BadTransactions", 2, "46 2"), ([recall(RECALLED, {**RECALLED, "Rsn": "fraud"})], "At", 2, "56 2 36 Rsn 9"),
+    ([recall(RECALLED, 7)], "BadTransactions", 2, "46 2"),
+    ([recall(RECALLED, {**RECALLED, "Rsn": "fraud"})], "At", 2, "56 2 36 Rsn 9"),
     ([recall({**RECALLED, "Purp": ""})], "At", 1, '56 1 37 "Purp"')]
 OF_DELTAS = [
-    ([delta(1, 3, 4)], "Gap", 0, "41 1 1 3"), ([delta(1, 1, 2)], "Fork", 0, "42 1 1"), ([delta(2, 2, 4)], "OwnAhead", 0, "43 2"),
-    ([delta(4, 1, 4)], "BadSite", 0, "44"), ([""], "BadDelta", 1, "45 1"), ([delta(3, 1, 4)[:-1]], "BadDelta", 4, "45 4")]
+    ([delta(1, 3, 4)], "Gap", 0, "41 1 1 3"), ([delta(1, 1, 2)], "Fork", 0, "42 1 1"),
+    ([delta(2, 2, 4)], "OwnAhead", 0, "43 2"),
+    ([delta(4, 1, 4)], "BadSite", 0, "44"), ([""], "BadDelta", 1, "45 1"),
+    ([delta(3, 1, 4)[:-1]], "BadDelta", 4, "45 4")]
 OF_OTHERS = [
-    ("cut", ["1"], "BadVector", 0, "72"), ("cut", [[0] * 1025], "BadSite", 0, "44"), ("cut_lines", ["1:1:1"], "BadVector", 0, "72"),
-    ("report", ["BANKDEFF", DAY, ""], "BadList", 1, "48 1"), ("report", ["BANKDEFF", DAY, HEADER + "\nx\n"], "BadList", 2, "48 2"),
-    ("report", ["bankdeff", DAY, HEADER], "BadArgument", 1, "73 1"), ("report", ["BANKDEFF", "today", HEADER], "BadArgument", 2, "73 2"),
+    ("cut", ["1"], "BadVector", 0, "72"), ("cut", [[0] * 1025], "BadSite", 0, "44"),
+    ("cut_lines", ["1:1:1"], "BadVector", 0, "72"),
+    ("entries", [0, 0, 1], "BadArgument", 1, "73 1"), ("entries", [1025, 0, 0], "BadArgument", 1, "73 1"),
+    ("entries", [1, 0, 0], "BadArgument", 3, "73 3"), ("entries", [1, 0, 67108864], "BadArgument", 3, "73 3"),
+    ("digest", [0, 0], "BadArgument", 1, "73 1"), ("digest", [1025, 0], "BadArgument", 1, "73 1"),
+    ("digest", [1, 99], "BadArgument", 2, "73 2"), ("digest", [3, (1 << 64) - 1], "BadArgument", 2, "73 2"),
+    ("report", ["BANKDEFF", DAY, ""], "BadList", 1, "48 1"),
+    ("report", ["BANKDEFF", DAY, HEADER + "\nx\n"], "BadList", 2, "48 2"),
+    ("report", ["bankdeff", DAY, HEADER], "BadArgument", 1, "73 1"),
+    ("report", ["BANKDEFF", "today", HEADER], "BadArgument", 2, "73 2"),
     ("kept_text", ["2024-5-02"], "BadArgument", 1, "73 1"), ("closed_text", [""], "BadArgument", 1, "73 1"),
     ("transfer", ["", "T1"], "BadArgument", 1, "73 1"), ("transfer", ["BANKDEFF", "T//1"], "BadArgument", 2, "73 2"),
     ("messages", ["BANK", "T1"], "BadArgument", 1, "73 1"), ("messages", ["BANKDEFF", ""], "BadArgument", 2, "73 2"),
     ("bank_totals", ["X"], "BadArgument", 1, "73 1")]
 # the library is not called for what C has no place for
-NOT_CALLED = [("cut", [[-1]], "BadVector", 0, ""), ("cut", [[1 << 64]], "BadVector", 0, ""), ("cut_lines", [[0, -1]], "BadVector", 0, "")]
-REFUSED = [(MessageRefused, "take", *one) for one in OF_MESSAGES] + [(DeltaRefused, "accept", *one) for one in OF_DELTAS]
+NOT_CALLED = [("cut", [[-1]], "BadVector", 0, ""), ("cut", [[1 << 64]], "BadVector", 0, ""),
+              ("cut_lines", [[0, -1]], "BadVector", 0, ""),
+              ("entries", [-1, 0, 1], "BadArgument", 1, ""), ("entries", [1 << 16, 0, 1], "BadArgument", 1, ""),
+              ("entries", [65537, -1, 1], "BadArgument", 1, ""), ("entries", [1, -1, 1], "BadArgument", 2, ""),
+              ("entries", [1, 1 << 64, 1], "BadArgument", 2, ""), ("entries", [1, 0, 1 << 64], "BadArgument", 3, ""),
+              ("digest", [-1, 0], "BadArgument", 1, ""), ("digest", [1 << 16, -1], "BadArgument", 1, ""),
+              ("digest", [1, -1], "BadArgument", 2, ""), ("digest", [1, 1 << 64], "BadArgument", 2, "")]
+REFUSED = [(MessageRefused, "take", *one) for one in OF_MESSAGES] + [(DeltaRefused, "accept", *one)
+                                                                     for one in OF_DELTAS]
 REFUSED += [(Refused, *one) for one in OF_OTHERS + NOT_CALLED]
 
 
 def table():
     """The numbers of the header, each with its name and its meaning."""
     text = (TOP / "include" / "niluppang.h").read_text(encoding="utf-8")
-    return {int(number): (name, meaning) for number, name, meaning in re.findall(r"^ \*     (\d\d) ([A-Z][a-z]\w*) +(.*)$", text, re.M)}
+    return {int(number): (name, meaning)
+            for number, name, meaning in re.findall(r"^ \*     (\d\d) ([A-Z][a-z]\w*) +(.*)$", text, re.M)}
 
 
 NUMBERS = {name: number for number, (name, _) in table().items()}
@@ -82,12 +103,14 @@ def test_each_number(site, error, call, arguments, name, place, reason):
     assert (site.answer(), site.counts()) == before
 
 
-@pytest.mark.parametrize("number, group", [(0, 1), (2, 1), (1, 0), (1025, 1025), (1, 1025), (65536, 3), (-1, 3), (1 << 70, 1 << 70)])
+@pytest.mark.parametrize("number, group", [(0, 1), (2, 1), (1, 0), (1025, 1025), (1, 1025), (65536, 3), (65537, 3),
+                                           (1, 65539), (-1, 3), (1 << 70, 1 << 70)])
 def test_no_such_site(number, group):
     for make in (Site, lambda number, group: Site.restore(number, group, b"x")):
         with pytest.raises(Refused) as raised:
             make(number, group)
-        assert (type(raised.value), raised.value.number, raised.value.name, raised.value.reason) == (Refused, 44, "BadSite", "")
+        assert (type(raised.value), raised.value.number, raised.value.name, raised.value.reason) == (Refused, 44,
+                                                                                                     "BadSite", "")
 
 
 def test_each_number_is_met():
@@ -127,14 +150,16 @@ def test_errors_are_copied(site, again):
     with pytest.raises(DeltaRefused) as raised:
         site.accept(delta(1, 3, 4))
     it = again(raised.value)
-    assert (type(it), it.number, it.name, it.place, it.reason, str(it)) == (DeltaRefused, 41, "Gap", 0, "41 1 1 3", str(raised.value))
+    assert (type(it), it.number, it.name, it.place, it.reason, str(it)) == (DeltaRefused, 41, "Gap", 0, "41 1 1 3",
+                                                                            str(raised.value))
 
 
 def test_error_is_read_by_a_process_without_the_library(site):
     with pytest.raises(DeltaRefused) as raised:
         site.accept(delta(1, 3, 4))
     source = "import pickle, sys; print(pickle.load(sys.stdin.buffer))"
-    done = subprocess.run([sys.executable, "-c", source], input=pickle.dumps(raised.value), stdout=subprocess.PIPE, check=True,
+    done = subprocess.run([sys.executable, "-c", source], input=pickle.dumps(raised.value),
+                          stdout=subprocess.PIPE, check=True,
                           env={**environment(), "NILUPPANG_LIBRARY": "/none"})
     assert done.stdout.decode() == f"{raised.value}\n"
 
@@ -215,7 +240,8 @@ site.close()
 @pytest.mark.skipif(IS_STAND_IN, reason="the stand-in has another process, whose memory is not limited")
 def test_out_of_memory():
     folder = pathlib.Path(__file__).parent
-    done = subprocess.run([sys.executable, "-c", OUT_OF_MEMORY], cwd=folder, env=environment(), capture_output=True, text=True, check=True)
+    done = subprocess.run([sys.executable, "-c", OUT_OF_MEMORY], cwd=folder, env=environment(), capture_output=True,
+                          text=True, check=True)
     assert done.stdout == "65 Memory True\nTrue [200000]\n"
 
 

@@ -22,8 +22,11 @@ import niluppang
 from niluppang import BytesSite, Closed, LibraryError, NiluppangError, Site, Taken, _library
 from niluppang._library import VARIABLE, library
 
-CALLS = {"take": [instruction()], "take_lines": [""], "accept": ["delta 2\nend 0\n"], "reading": [""], "counts": [], "vector_text": [],
-         "cut": ["-"], "cut_lines": [[]], "journal": [], "journal_lines": [0], "newest": [1], "evaluate": [], "archive_text": [],
+CALLS = {"take": [instruction()], "take_lines": [""], "accept": ["delta 2\nend 0\n"], "reading": [""],
+         "counts": [], "vector_text": [],
+         "cut": ["-"], "cut_lines": [[]], "entries": [1, 0, 1], "digest": [1, 0], "digests_text": [],
+         "journal": [], "journal_lines": [0],
+         "newest": [1], "evaluate": [], "archive_text": [],
          "archive_lines": [], "status_text": [], "status_lines": [], "totals_text": [], "contradictions_text": [],
          "report": ["BANKDEFF", "2024-05-02", ""], "kept_text": ["2024-05-02"], "closed_text": ["2024-05-02"],
          "transfer": ["BANKDEFF", "T1"], "messages": ["BANKDEFF", "T1"],
@@ -109,7 +112,8 @@ def test_no_warning_without_a_site():
 
 def test_end_of_the_program():
     source = "from niluppang import Site\nsite = Site(1, 1)"
-    variables = {**os.environ, "PYTHONPATH": str(pathlib.Path(niluppang.__file__).parents[1]), VARIABLE: library()._name}
+    variables = {**os.environ, "PYTHONPATH": str(pathlib.Path(niluppang.__file__).parents[1]),
+                 VARIABLE: library()._name}
     done = subprocess.run([sys.executable, "-W", "always", "-c", source], env=variables, capture_output=True, text=True)
     assert done.returncode == 0 and done.stderr.count("ResourceWarning: unclosed <Site 1 of 1, open>") == 1
     assert "Traceback" not in done.stderr and "Exception" not in done.stderr
@@ -156,7 +160,8 @@ def test_what_is_no_number(number):
 # ---- texts
 
 KINDS = {"str": str, "bytes": str.encode, "bytearray": lambda text: bytearray(text.encode()),
-         "memoryview": lambda text: memoryview(text.encode()), "memory of others": lambda text: memoryview(bytearray(text.encode())),
+         "memoryview": lambda text: memoryview(text.encode()),
+         "memory of others": lambda text: memoryview(bytearray(text.encode())),
          "a part": lambda text: memoryview(bytearray(b"x" + text.encode() + b"x"))[1:-1],
          "with gaps": lambda text: memoryview(b"".join(b"%c-" % byte for byte in text.encode()))[::2],
          "backwards": lambda text: memoryview(bytearray(text.encode()[::-1]))[::-1],
@@ -193,7 +198,8 @@ def test_what_is_not_copied(kind):
     """The library is given the address of the bytes themselves."""
     text, seen = KINDS[kind](instruction()), []
     with Site(1, 1) as site:
-        Hooked(site, take=lambda _, data, length: seen.append((data if kind == "bytes" else ctypes.addressof(data._obj), length)))
+        Hooked(site, take=lambda _, data, length: seen.append((data if kind == "bytes" else ctypes.addressof(data._obj),
+                                                               length)))
         site.take(text)
     right = text if kind == "bytes" else ctypes.addressof(ctypes.c_char.from_buffer(text))
     assert seen == [(right, len(instruction().encode()))] and (kind != "bytes" or seen[0][0] is text)
@@ -211,13 +217,15 @@ def test_mapped_journal(tmp_path):
     path = tmp_path / "journal"
     path.write_bytes(bytes_in("bank-day.jsonl"))
     for access in (mmap.ACCESS_READ, mmap.ACCESS_WRITE, mmap.ACCESS_COPY):
-        with open(path, "r+b") as file, mmap.mmap(file.fileno(), 0, access=access) as journal, Site.restore(1, 1, journal) as site:
+        with open(path, "r+b") as file, mmap.mmap(file.fileno(), 0,
+                                                  access=access) as journal, Site.restore(1, 1, journal) as site:
             assert site.status_text().encode() == bytes_in("bank-day.status")
 
 
 def test_memory_is_lent_for_the_call_alone():
     """Who gave it may change its size, release it or close it, also while the error of the call is there."""
-    calls = [lambda site, text: site.take(text), lambda site, text: site.accept(text), lambda site, text: site.cut(text),
+    calls = [lambda site, text: site.take(text), lambda site, text: site.accept(text),
+             lambda site, text: site.cut(text),
              lambda site, text: site.report(text, text, text), lambda site, text: site.cut_lines(text)]
     with Site(1, 1) as site:
         for call in calls:
@@ -242,7 +250,8 @@ def test_memory_is_lent_for_the_call_alone():
 @pytest.mark.parametrize("wrong", [None, 5, 1.5, ["x"], (b"x", 1), ("x",)])
 def test_what_is_no_text(wrong):
     with Site(1, 1) as site:
-        for call in (site.take, site.take_lines, site.accept, site.reading, lambda text: site.transfer("BANKDEFF", text)):
+        for call in (site.take, site.take_lines, site.accept, site.reading,
+                     lambda text: site.transfer("BANKDEFF", text)):
             with pytest.raises(TypeError):
                 call(wrong)
         assert site.counts() == [0]
@@ -263,7 +272,8 @@ def test_the_library_is_never_given_nothing(empty):
         def note(_, *more):
             return seen.extend(zip(more[::2], more[1::2]))
 
-        Hooked(site, take=note, take_lines=note, accept=note, cut=note, report=note, transfer_text=note, reading_text=note)
+        Hooked(site, take=note, take_lines=note, accept=note, cut=note, report=note, transfer_text=note,
+               reading_text=note)
         for name in ("take", "take_lines", "accept", "cut", "report", "transfer", "reading"):
             words = [empty] * {"report": 3, "transfer": 2}.get(name, 1)
             try:
@@ -279,7 +289,8 @@ def test_bytes_site():
     with Site(1, 1) as site, BytesSite(1, 1) as twin:
         for one in (site, twin):
             one.take_lines(bytes_in("bank-day.jsonl"))
-        for name in ("archive_text", "status_text", "totals_text", "vector_text", "contradictions_text", "cut", "journal", "answer"):
+        for name in ("archive_text", "status_text", "totals_text", "vector_text", "contradictions_text", "cut",
+                     "journal", "answer"):
             text, data = getattr(site, name)(), getattr(twin, name)()
             assert type(text) is str and type(data) is bytes and text.encode() == data
         assert twin.changes() == site.changes() == []
@@ -320,13 +331,14 @@ def test_one_site_for_all_threads():
         def work(number):
             for place in range(each):
                 site.take(instruction(number * each + place))
-                assert site.transfer("BANKDEFF", f"T{number * each + place}").endswith(f"T{number * each + place}|PENDING\n")
+                assert site.transfer("BANKDEFF",
+                                     f"T{number * each + place}").endswith(f"T{number * each + place}|PENDING\n")
         on_threads(work, 4)
         assert site.counts() == [4 * each]
 
 
 def test_closed_by_another_thread():
-    site, begun, latest = Site(1, 1), threading.Semaphore(0), time.monotonic() + 30
+    site, begun, latest = Site(1, 1), threading.Semaphore(0), time.monotonic() + 60
 
     def work(number):
         if number == 0:
@@ -344,7 +356,8 @@ def test_closed_by_another_thread():
 
 
 class Long:
-    """A call of a site that runs in another thread. The handle is empty while it runs, as the library leaves it then."""
+    """A call of a site that runs in another thread. The handle is empty while it runs, as the library leaves it
+    then."""
 
     def __init__(self, site, call="status_text"):
         self.site, self.began, self.may_end = site, threading.Event(), threading.Event()
@@ -355,7 +368,7 @@ class Long:
         kept = bytes(handle)
         ctypes.memset(ctypes.addressof(handle), 0, len(kept))
         self.began.set()
-        assert self.may_end.wait(10)
+        assert self.may_end.wait(60)
         ctypes.memmove(ctypes.addressof(handle), kept, len(kept))
 
     def __enter__(self):
@@ -430,7 +443,8 @@ def test_library_that_the_variable_names(tmp_path):
 
 def test_library_beside_the_package(tmp_path):
     package = tmp_path / "niluppang"
-    shutil.copytree(pathlib.Path(niluppang.__file__).parent, package, ignore=shutil.ignore_patterns("*.so", "__pycache__"))
+    shutil.copytree(pathlib.Path(niluppang.__file__).parent, package,
+                    ignore=shutil.ignore_patterns("*.so", "__pycache__"))
     shutil.copy(library()._name, package / "libniluppang.so")
     assert ask(tmp_path).stdout == niluppang.library_version() + "\n"
 

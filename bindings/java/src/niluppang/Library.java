@@ -116,6 +116,12 @@ final class Library {
 
     static native Outcome sct_raw_cut_above(Pointer site, long[] counts, long items);
 
+    static native Outcome sct_raw_entries(Pointer site, short origin, long above, long most);
+
+    static native Outcome sct_raw_digest(Pointer site, short origin, long count);
+
+    static native Outcome sct_raw_digests_text(Pointer site);
+
     static native Outcome sct_raw_journal_text(Pointer site, long above);
 
     static native Outcome sct_raw_newest_text(Pointer site, long count);

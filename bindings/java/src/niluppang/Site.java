@@ -29,6 +29,7 @@ public final class Site implements AutoCloseable {
     private static final int MEMORY = 65;
     private static final int BAD_SITE = 44;
     private static final int BAD_VECTOR = 72;
+    private static final int BAD_ARGUMENT = 73;
     private static final int PART = 1 << 16;
     private static final byte[] NOTHING = new byte[1];
     private static final long[] NO_COUNTS = new long[1];
@@ -187,6 +188,39 @@ public final class Site implements AutoCloseable {
             throw new NiluppangException(BAD_VECTOR, 0, "");
         }
         return answered(() -> Library.sct_raw_cut_above(handle, counts.length == 0 ? NO_COUNTS : counts, counts.length));
+    }
+
+    /**
+     * The delta of the messages of one site that are numbered above a count: as many as a text of {@code most} bytes has room for, and at
+     * least one if there is one. The origin is 1 to 1024, and {@code most} is 1 to 67108863.
+     *
+     * A site that asks so again and again, each time above what it holds, has all when a text without a message comes.
+     * Refusals: 65, 70, 73 (1: the origin, 2: the count, 3: the bytes).
+     */
+    public byte[] entries(int origin, long above, long most) {
+        if (origin < 0 || origin > 0xFFFF || above < 0) {
+            throw new NiluppangException(BAD_ARGUMENT, origin < 0 || origin > 0xFFFF ? 1 : 2, "");
+        }
+        return answered(() -> Library.sct_raw_entries(handle, (short) origin, above, most));
+    }
+
+    /**
+     * The digest of the first messages of one site, as 64 small hexadecimal digits. The origin is 1 to 1024.
+     *
+     * Two sites with one digest of a count hold the same messages up to it: the header niluppang.h defines it.
+     * Refusals: 65, 70, 73 (1: the origin, 2: the count is below 0, or above what the site holds).
+     */
+    public byte[] digest(int origin, long count) {
+        if (origin < 0 || origin > 0xFFFF || count < 0) {
+            throw new NiluppangException(BAD_ARGUMENT, origin < 0 || origin > 0xFFFF ? 1 : 2, "");
+        }
+        return answered(() -> Library.sct_raw_digest(handle, (short) origin, count));
+    }
+
+    /** A line such as {@code 3:7:05c1..} for each site of which this one holds messages, ascending: its number, how many messages of it are
+     * held, and the digest of all of them. Two sites with equal texts hold the same messages. Refusals: 65, 70. */
+    public byte[] digestsText() {
+        return answered(() -> Library.sct_raw_digests_text(handle));
     }
 
     /** The site's own messages that are numbered above a count, each on a line of the archive text: what a journal lacks that has so many

@@ -6,6 +6,8 @@ import java.io.InputStream;
 import java.nio.charset.StandardCharsets;
 import java.nio.file.Files;
 import java.nio.file.Path;
+import java.security.MessageDigest;
+import java.security.NoSuchAlgorithmException;
 import java.util.ArrayList;
 import java.util.Arrays;
 import java.util.List;
@@ -256,6 +258,20 @@ public final class SiteTest {
         refused("a vector as a stream", 72, 0, "72", () -> site.cutStream(""));
         refused("a count", 72, 0, "", () -> site.cutAbove(0, -1));
         refused("counts", 44, 0, "44", () -> site.cutAbove(new long[1025]));
+        refused("no origin", 73, 1, "73 1", () -> site.entries(0, 0, 1));
+        refused("an origin that is none", 73, 1, "73 1", () -> site.entries(1025, 0, 1));
+        refused("no room", 73, 3, "73 3", () -> site.entries(1, 0, 0));
+        refused("too much room", 73, 3, "73 3", () -> site.entries(1, 0, 67108864));
+        refused("room below 0", 73, 3, "73 3", () -> site.entries(1, 0, -1));
+        for (int number : new int[] {-1, 65536, 65537, Integer.MIN_VALUE}) {
+            refused("an origin that is no number of C", 73, 1, "", () -> site.entries(number, -1, 1));
+        }
+        refused("a count below 0", 73, 2, "", () -> site.entries(1, -1, 1));
+        refused("no origin", 73, 1, "73 1", () -> site.digest(0, 0));
+        refused("an origin that is none", 73, 1, "73 1", () -> site.digest(1025, 0));
+        refused("a count that is not held", 73, 2, "73 2", () -> site.digest(1, 99));
+        refused("a count below 0", 73, 2, "", () -> site.digest(1, -1));
+        refused("an origin that is no number of C", 73, 1, "", () -> site.digest(65536, -1));
         refused("a list", 48, 1, "48 1", () -> site.report("BANKDEFF", "2024-05-02", new byte[0]));
         refused("a list", 48, 2, "48 2", () -> site.report("BANKDEFF", "2024-05-02", list));
         refused("a bank", 73, 1, "73 1", () -> site.report("bank", "2024-05-02", list));
@@ -278,7 +294,7 @@ public final class SiteTest {
     private static void closed(Site site) {
         List<Call> calls = List.of(() -> site.take(""), () -> site.takeLines(bytes("")), () -> site.accept(bytes("")), site::counts,
             () -> site.reading(bytes("")), site::vectorText, () -> site.cut("-"), () -> site.cutStream("-"), site::cutAbove,
-            () -> site.journal(0), () -> site.journalStream(0), () -> site.newest(1), site::evaluate, site::archiveText,
+            () -> site.entries(1, 0, 1), () -> site.digest(1, 0), site::digestsText, () -> site.journal(0), () -> site.journalStream(0), () -> site.newest(1), site::evaluate, site::archiveText,
             site::archiveStream, site::statusText, site::statusStream, site::totalsText, site::contradictionsText, site::changes,
             site::answer, site::answerEnd,
             () -> site.report("BANKDEFF", "2024-05-02", bytes("")), () -> site.keptText("2024-05-02"),
@@ -371,6 +387,74 @@ public final class SiteTest {
             same("the most", site.newest(Long.MAX_VALUE), String.join("", came));
             String twice = "{\"MsgId\":\"M9\"," + instruction(4).substring(1);
             same("a reading", site.reading(bytes(twice + "\n \n[]\n" + instruction(7))), archived(4) + "line 3: 32\n" + archived(7));
+        }
+    }
+
+    /** A delta of instructions, as a site writes it. */
+    private static byte[] written(int origin, int first, int... numbers) {
+        StringBuilder text = new StringBuilder("delta 2\norigin " + origin + " " + first + " " + numbers.length + "\n");
+        for (int number : numbers) {
+            text.append(archived(number));
+        }
+        return bytes(text + "end " + numbers.length + "\n");
+    }
+
+    /** What a site has that asks for entries of one origin, in room for one, for some and for all. */
+    private static void entries() {
+        try (Site site = new Site(2, 3)) {
+            site.accept(delta(1, 1, 9, 7, 4, 5));
+            site.take(instruction(8));
+            int[] room = {written(1, 1, 9).length, written(1, 1, 9, 7).length, written(1, 1, 9, 7, 4, 5).length};
+            same("all", site.entries(1, 0, 67108863), written(1, 1, 9, 7, 4, 5));
+            same("in just their room", site.entries(1, 0, room[2]), written(1, 1, 9, 7, 4, 5));
+            same("in a byte less", site.entries(1, 0, room[2] - 1), written(1, 1, 9, 7, 4));
+            same("in room for two", site.entries(1, 0, room[1]), written(1, 1, 9, 7));
+            same("in room for one", site.entries(1, 0, room[1] - 1), written(1, 1, 9));
+            same("in room for none", site.entries(1, 0, 1), written(1, 1, 9));
+            same("above some", site.entries(1, 2, room[1]), written(1, 3, 4, 5));
+            same("its own", site.entries(2, 0, room[0]), written(2, 1, 8));
+            for (long[] none : new long[][] {{1, 4}, {1, Long.MAX_VALUE}, {3, 0}, {9, 0}}) {
+                same("no entries", site.entries((int) none[0], none[1], room[0]), "delta 2\nend 0\n");
+            }
+        }
+    }
+
+    /** The digest of a digest and of instructions after it, as the archive text has them. */
+    private static byte[] chained(byte[] before, int... numbers) {
+        try {
+            byte[] digest = before;
+            for (int number : numbers) {
+                MessageDigest hash = MessageDigest.getInstance("SHA-256");
+                hash.update(digest);
+                hash.update(bytes(archived(number)));
+                digest = hash.digest();
+            }
+            return digest;
+        } catch (NoSuchAlgorithmException none) {
+            throw new AssertionError(none);
+        }
+    }
+
+    private static String hex(byte[] digest) {
+        StringBuilder text = new StringBuilder();
+        for (byte one : digest) {
+            text.append(String.format("%02x", one));
+        }
+        return text.toString();
+    }
+
+    /** What a site has that asks for digests, before and after more messages come. */
+    private static void digests() {
+        try (Site site = new Site(2, 3)) {
+            same("no digests", site.digestsText(), "");
+            site.accept(delta(1, 1, 9, 7));
+            same("of one site", site.digestsText(), "1:2:" + hex(chained(new byte[32], 9, 7)) + "\n");
+            site.accept(delta(1, 3, 4));
+            site.take(instruction(8));
+            same("of none", site.digest(1, 0), "0".repeat(64));
+            same("of some", site.digest(1, 1), hex(chained(new byte[32], 9)));
+            same("of all", site.digest(1, 3), hex(chained(new byte[32], 9, 7, 4)));
+            same("of two sites", site.digestsText(), "1:3:" + hex(chained(new byte[32], 9, 7, 4)) + "\n2:1:" + hex(chained(new byte[32], 8)) + "\n");
         }
     }
 
@@ -542,6 +626,8 @@ public final class SiteTest {
         numbers();
         answers(folder);
         arrivals();
+        entries();
+        digests();
         streams(folder);
         threads(folder);
         reasons();
