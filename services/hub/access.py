@@ -1,7 +1,8 @@
-"""access.py: who asks, by a client certificate or by a token, and who may ask what.
+"""access.py: who asks, by a client certificate or by a token. addresses.py says who may ask what.
 
-The file of roles has a table for each who: its roles, the names of its certificates, and the sums of its tokens. A token is known by its
-SHA-256 alone, and two may be there while one takes the place of the other. Without a file of roles everyone on this machine may do all.
+The file of roles has a table for each who: its roles, the names or the sums of its certificates, and the sums of its
+tokens. A token is known by its SHA-256 alone, and two may be there while one takes the place of the other. Without a
+file of roles everyone on this machine may do all.
 """
 from __future__ import annotations
 import base64
@@ -9,6 +10,7 @@ import binascii
 import hashlib
 import re
 from typing import Any, NamedTuple
+from .addresses import EVERYONE, PLAIN_ROLES
 from .config import parsed
 from .files import Wrong
 
@@ -17,56 +19,7 @@ SUM = re.compile(r"sha256:[0-9a-f]{64}")
 NAME = re.compile(r"[A-Za-z0-9._-]{1,64}")
 KINDS = ("DNS", "URI")  # of names that a certificate may have
 MOST_TOKENS = 2
-PLAIN_ROLES = ("desk", "monitor", "operator")
-EVERYONE = ("everyone",)
-
-
-# an address: the method, the path as pages show it, and the roles that may ask it
-class Address(NamedTuple):
-    method: str
-    path: str
-    roles: tuple[str, ...]
-
-
-ADDRESSES = [
-    Address("GET", "/", ("desk",)),
-    Address("POST", "/messages", ("bank", "operator")),
-    Address("POST", "/iso20022", ("bank", "operator")),
-    Address("GET", "/waiting", ("bank", "desk", "operator")),
-    Address("GET", "/transfers/{bank}/{tx}", ("bank", "desk")),
-    Address("GET", "/transfers/{bank}/{tx}/messages", ("bank", "desk")),
-    Address("GET", "/find", ("desk",)),
-    Address("GET", "/totals/{bank}", ("bank", "desk")),
-    Address("POST", "/report/{bank}/{day}", ("bank", "desk")),
-    Address("GET", "/totals", ("desk",)),
-    Address("GET", "/status", ("desk",)),
-    Address("GET", "/archive", ("desk",)),
-    Address("GET", "/contradictions", ("desk",)),
-    Address("GET", "/changes", ("desk",)),
-    Address("GET", "/vector", ("peer", "desk", "monitor", "operator")),
-    Address("GET", "/delta", ("peer",)),
-    Address("GET", "/metrics", ("monitor", "operator")),
-    Address("GET", "/health", EVERYONE),
-    Address("GET", "/live", EVERYONE),
-    Address("GET", "/ready", EVERYONE),
-    Address("GET", "/openapi.json", EVERYONE),
-]
-
-
-BOUNDED = {"bank", "peer", "everyone"}  # what these are given is bounded by the address itself: they get no other one
-
-
-def table(changes: dict[str, tuple[str, ...]]) -> list[Address]:
-    """The addresses, with other roles for some of them, such as {"GET /totals": ["desk", "monitor"]}."""
-    names = {f"{it.method} {it.path}": it for it in ADDRESSES}
-    for name, roles in changes.items():
-        if name not in names:
-            raise Wrong(f"[access] has {name}, which is no address: it is one of {', '.join(names)}")
-        odd = [role for role in roles if role not in PLAIN_ROLES and not (role in BOUNDED and role in names[name].roles)]
-        if odd or not roles:
-            raise Wrong(f"{name} in [access] has roles of {', '.join(PLAIN_ROLES)}, and of {', '.join(names[name].roles)}")
-        names[name] = names[name]._replace(roles=EVERYONE if "everyone" in roles else tuple(roles))
-    return list(names.values())
+QUOTAS = {"lines": "lines_a_day", "bytes": "bytes_a_day"}  # the keys of what somebody may post in a day
 
 
 def bank(text: str) -> str:
@@ -75,7 +28,8 @@ def bank(text: str) -> str:
 
 
 class Who(NamedTuple):
-    """Somebody: a name for the record, the words of the roles, the banks in whose name it sends, and the sites that it is."""
+    """Somebody: a name for the record, the words of the roles, the banks in whose name it sends, and the sites that it
+    is."""
     name: str
     roles: frozenset[str]
     banks: frozenset[str]
@@ -118,6 +72,11 @@ def names_in(certificate: dict[str, Any] | None) -> list[str]:
     return [f"{kind}:{name}" for kind, name in (certificate or {}).get("subjectAltName", ()) if kind in KINDS]
 
 
+def keys_of(certificate: dict[str, Any] | None) -> list[str]:
+    """All by which a file of roles may know a certificate: its names, and its sum."""
+    return [*names_in(certificate), *([certificate["sum"]] if certificate and "sum" in certificate else [])]
+
+
 def token_in(header: str) -> bytes | None:
     """The token of a header, also as the password that a browser asks for. None if the header has none."""
     kind, _, text = header.encode("utf-8", "surrogateescape").partition(b" ")
@@ -134,13 +93,24 @@ class Roles:
     certificates: dict[str, Who]
     tokens: dict[str, Who]
     all: list[Who]
+    quotas: dict[str, dict[str, int]]  # of lines and of bytes that somebody may post in a day
 
     def __init__(self, path: str | None = None) -> None:
-        self.is_open, self.certificates, self.tokens, self.all = path is None, {}, {}, []
+        self.is_open, self.certificates, self.tokens, self.all, self.quotas = path is None, {}, {}, [], {}
         for name, table in parsed(path).items() if path else ():
             if not NAME.fullmatch(name) or not isinstance(table, dict):
-                raise Wrong(f"{name!r} in {path} is not a table whose name has letters, digits, points, dashes and low lines alone")
+                raise Wrong(
+                    f"{name!r} in {path} is not a table whose name has letters, digits, points, dashes and low lines "
+                    "alone")
+            self.quotas[name] = {of: self._number(path, name, key, table.pop(key)) for of, key in QUOTAS.items()
+                                 if key in table}
             self._add(name, {key: self._texts(path, name, key, value) for key, value in table.items()})
+
+    @staticmethod
+    def _number(path: str | None, name: str, key: str, value: object) -> int:
+        if not isinstance(value, int) or isinstance(value, bool) or value < 1:
+            raise Wrong(f"{key} of {name} in {path} is not a number from 1")
+        return value
 
     @staticmethod
     def _texts(path: str | None, name: str, key: str, value: list[str] | str) -> list[str]:
@@ -151,13 +121,17 @@ class Roles:
         return value
 
     def _add(self, name: str, table: dict[str, list[str]]) -> None:
-        who, certificates, tokens = who_of(name, table.get("roles", [])), table.get("certificates", []), table.get("tokens", [])
+        who, certificates, tokens = (who_of(name, table.get("roles", [])), table.get("certificates", []),
+                                     table.get("tokens", []))
         if not who.roles or not certificates + tokens:
             raise Wrong(f"{name} has no roles, or neither certificates nor tokens")
         if len(tokens) > MOST_TOKENS or not all(SUM.fullmatch(text) for text in tokens):
             raise Wrong(f"tokens of {name} are one or two texts sha256: with 64 digits of the sum of a token")
-        if not all(text.partition(":")[0] in KINDS and text.partition(":")[2] for text in certificates):
-            raise Wrong(f"certificates of {name} are names such as DNS:gateway.example")
+        if not all(text.partition(":")[0] in KINDS and text.partition(":")[2] or SUM.fullmatch(text)
+                   for text in certificates):
+            raise Wrong(
+                f"certificates of {name} are names such as DNS:gateway.example, or sha256: with 64 digits of the "
+                "sum of one in DER")
         for known, keys in (self.certificates, certificates), (self.tokens, tokens):
             for key in keys:
                 if key in known:
@@ -166,18 +140,22 @@ class Roles:
         self.all.append(who)
 
     def who(self, certificate: dict[str, Any] | None, header: str) -> Who | None:
-        """Who asks, by a certificate and the text of the header Authorization. None if a token is given that nobody has."""
+        """Who asks, by a certificate and the text of the header Authorization. None if a token is given that nobody
+        has."""
         if self.is_open:
             return LOCAL
         token = token_in(header) if header else None
         if token is not None:
             return self.tokens.get(sum_of(token))
-        holders = {self.certificates[name] for name in names_in(certificate) if name in self.certificates}
+        holders = self._holders(certificate)
         return holders.pop() if len(holders) == 1 else NOBODY if not holders else None
+
+    def _holders(self, certificate: dict[str, Any] | None) -> set[Who]:
+        return {self.certificates[key] for key in keys_of(certificate) if key in self.certificates}
 
     def is_peer(self, number: int, certificate: dict[str, Any] | None) -> bool:
         """Whether a certificate is that of a site, and of nobody else."""
-        holders = {self.certificates[name] for name in names_in(certificate) if name in self.certificates}
+        holders = self._holders(certificate)
         return len(holders) == 1 and number in holders.pop().peers
 
     def may_send(self, name: str, bank: str) -> bool:

@@ -1,7 +1,9 @@
-"""client.py: a client of the sites of a hub, of the standard library alone. It needs Python 3.8, and no other file of this folder.
+"""client.py: a client of the sites of a hub, of the standard library alone. It needs Python 3.8, and no other file of
+this folder.
 
-A post is sent to one of several addresses, and again to the next one until each of its lines has an outcome: what was taken before is
-then a REPEAT. An answer that sends on to another address is an error. A token is sent over http to this machine alone.
+A post is sent to one of several addresses, and again to the next one until each of its lines has an outcome: what was
+taken before is then a REPEAT. An answer that sends on to another address is an error. A token is sent over http to this
+machine alone.
 """
 from __future__ import annotations
 import argparse
@@ -24,12 +26,14 @@ AGAIN = (408, 429, 500, 502, 503, 504, 507)  # statuses after which the same may
 HALTED = 409  # the status after which it may be sent to another site
 FIRST_PAUSE, MOST_PAUSE = 0.1, 5.0  # seconds before the same is sent again
 MOST_CONNECT, LEAST = 10.0, 1.0  # seconds to connect at most, and seconds that a site has at least to answer a post
+MOST_PROBE = 3.0  # seconds in which a site shows that it speaks TLS
 PIECE = 1 << 16  # bytes of an answer that are read at once
-MOST_SAID = 500  # letters of what a site says that an error has
+MOST_SAID = 4000  # letters of what a site says that an error has
 BLANK = b" \t\r"
 FAULTS = (OSError, http.client.HTTPException)
 # what is said of faults that do not say it in plain words
-SAID = {http.client.IncompleteRead: "the answer is cut off", http.client.RemoteDisconnected: "the connection ended without an answer",
+SAID = {http.client.IncompleteRead: "the answer is cut off",
+        http.client.RemoteDisconnected: "the connection ended without an answer",
         http.client.HTTPException: "the answer is none of HTTP"}
 ADDRESS = re.compile(r"https?://[^\s/?#@]+(/[\w.~%/-]*)?", re.ASCII | re.IGNORECASE)
 TOKEN = re.compile(r"[!-~]+")
@@ -45,8 +49,8 @@ class Answer(NamedTuple):
 
 
 class Failed(Exception):
-    """There is no answer that counts, and why, in one line. `status` and `request`, its identification, are those of an answer that is an
-    error. Both are None if there is no answer at all."""
+    """There is no answer that counts, and why, in one line. `status` and `request`, its identification, are those of an
+    answer that is an error. Both are None if there is no answer at all."""
 
     def __init__(self, why: str, status: int | None = None, request: str | None = None, seconds: float = 0.0) -> None:
         super().__init__(why)
@@ -65,7 +69,8 @@ class Elsewhere(Failed):
 
 def one_line(text: str) -> str:
     """A text as a line without signs that a terminal would obey."""
-    return "".join(sign if sign.isprintable() else "?" for sign in " ".join(text.split()))[:MOST_SAID]
+    line = "".join(sign if sign.isprintable() else "?" for sign in " ".join(text.split()))
+    return line if len(line) <= MOST_SAID else f"{line[:MOST_SAID]} .. (cut: {len(line)} letters)"
 
 
 def seconds_of(text: str) -> float:
@@ -91,7 +96,7 @@ def said_in(body: bytes) -> str:
         error = json.loads(body)
         return one_line(f"{error['why']}; {error['remedy']}")
     except (ValueError, TypeError, KeyError):
-        return one_line(body[:4 * MOST_SAID].decode(errors="replace"))
+        return one_line(body[:MOST_SAID].decode(errors="replace"))
 
 
 def failure_of(address: str, answer: Answer) -> Exception | Elsewhere:
@@ -104,10 +109,12 @@ def failure_of(address: str, answer: Answer) -> Exception | Elsewhere:
 
 
 def failure_by(address: str, fault: Exception) -> Failed:
-    """The failure that a broken connection is. A site is not asked again if one side does not trust the certificate of the other."""
+    """The failure that a broken connection is. A site is not asked again if one side does not trust the certificate of
+    the other."""
     said = next((text for kind, text in SAID.items() if isinstance(fault, kind)), None)
     kind = Elsewhere if type(fault) in (ssl.SSLError, ssl.SSLCertVerificationError) else Later
-    return kind(f"{address}: {said or one_line(getattr(fault, 'strerror', None) or str(fault) or type(fault).__name__)}")
+    return kind(
+        f"{address}: {said or one_line(getattr(fault, 'strerror', None) or str(fault) or type(fault).__name__)}")
 
 
 # ---- one site
@@ -120,12 +127,14 @@ def is_local(host: str) -> bool:
 
 
 def has_end(answer: http.client.HTTPResponse) -> bool:
-    """Whether an answer says how long it is, or has a mark at its end. Without that nobody knows whether all of it came."""
+    """Whether an answer says how long it is, or has a mark at its end. Without that nobody knows whether all of it
+    came."""
     return answer.chunked or answer.length is not None
 
 
 class Site:
-    """A site at an address, and the connection to it that is kept open. It does not want to be asked again before `free_at`."""
+    """A site at an address, and the connection to it that is kept open. It does not want to be asked again before
+    `free_at`."""
 
     def __init__(self, address: str, context: ssl.SSLContext | None) -> None:
         try:
@@ -144,6 +153,27 @@ class Site:
         """Whether nobody else reads what is sent to it."""
         return self.context is not None or is_local(self.host)
 
+    def speaks_tls(self) -> bool:
+        """Whether the site answers by TLS at a port that was asked without. Nothing is sent, and no certificate is
+        looked at."""
+        context = ssl.create_default_context()
+        context.check_hostname, context.verify_mode = False, ssl.CERT_NONE
+        try:
+            with socket.create_connection((self.host, self.connection.port),
+                                          MOST_PROBE) as plain, context.wrap_socket(plain, server_hostname=self.host):
+                return True
+        except ssl.SSLError as fault:  # an alert is TLS too, such as that a certificate is wanted
+            return "ALERT" in (fault.reason or "")
+        except OSError:
+            return False
+
+    def failure(self, fault: Exception) -> Failed:
+        """The failure that a broken connection is. A site that speaks TLS is not asked again without."""
+        if self.context is None and not isinstance(fault, (ConnectionRefusedError, socket.timeout,
+                                                           socket.gaierror)) and self.speaks_tls():
+            return Elsewhere(f"{self.address}: this port speaks TLS: write https:// in place of http://")
+        return failure_by(self.address, fault)
+
     def fresh(self) -> http.client.HTTPConnection | http.client.HTTPSConnection:
         """A connection that is not open yet."""
         if self.context:
@@ -151,7 +181,8 @@ class Site:
         return http.client.HTTPConnection(self.host, self.port)
 
     def ask(self, method: str, path: str, body: bytes | None, headers: dict[str, str], timeout: float) -> Answer:
-        """The answer of the site. A site ends connections that are silent. So one that was kept open and is broken is opened anew."""
+        """The answer of the site. A site ends connections that are silent. So one that was kept open and is broken is
+        opened anew."""
         was_open = self.connection.sock is not None
         try:
             return self._answer(method, path, body, headers, timeout)
@@ -168,9 +199,11 @@ class Site:
             self.connection.close()
             raise
 
-    def begun(self, connection: http.client.HTTPConnection | http.client.HTTPSConnection, method: str, path: str, body: bytes | None,
+    def begun(self, connection: http.client.HTTPConnection | http.client.HTTPSConnection, method: str,
+              path: str, body: bytes | None,
               headers: dict[str, str], timeout: float) -> http.client.HTTPResponse:
-        """An answer of which the head has come. A site may answer before it has read the body of a request, and then read no more of it."""
+        """An answer of which the head has come. A site may answer before it has read the body of a request, and then
+        read no more of it."""
         connection.timeout = min(timeout, MOST_CONNECT)
         if connection.sock is None:
             connection.connect()
@@ -204,7 +237,8 @@ class Lines:
             yield rest
 
     def _pieces(self) -> Iterator[bytes]:
-        """The bytes of the answer as they come. Its `readline` takes an answer in chunks that is cut off for one that ends."""
+        """The bytes of the answer as they come. Its `readline` takes an answer in chunks that is cut off for one that
+        ends."""
         if self.answer.chunked:
             yield from iter(lambda: self.answer.read1(PIECE), b"")
             return
@@ -239,17 +273,20 @@ def outcomes_in(body: bytes) -> list[dict[str, int | str]] | None:
         outcomes = [json.loads(line) for line in body.split(b"\n") if line]
     except ValueError:
         return None
-    return outcomes if all(isinstance(outcome, dict) and isinstance(outcome.get("outcome"), str) for outcome in outcomes) else None
+    return outcomes if all(isinstance(outcome, dict) and isinstance(outcome.get("outcome"), str)
+                           for outcome in outcomes) else None
 
 
 class Client:
     """Asks sites of a hub, one request after another. Threads do not share it.
 
-    `addresses` are those of the sites. A `token` is sent with each request, and a `context` of ssl has the certificates. No site may be
-    silent for longer than `timeout` seconds. In names of headers _ is written for -. ValueError says why an address or a token is refused.
+    `addresses` are those of the sites. A `token` is sent with each request, and a `context` of ssl has the
+    certificates. No site may be silent for longer than `timeout` seconds. In names of headers _ is written for -.
+    ValueError says why an address or a token is refused.
     """
 
-    def __init__(self, addresses: list[str], token: str | None = None, context: ssl.SSLContext | None = None, timeout: float = 60) -> None:
+    def __init__(self, addresses: list[str], token: str | None = None, context: ssl.SSLContext | None = None,
+                 timeout: float = 60) -> None:
         self.sites = [Site(address, context) for address in addresses]
         if not self.sites:
             raise ValueError("there is no address of a site")
@@ -257,8 +294,12 @@ class Client:
             raise ValueError("the token is not one word of printable ASCII")
         for site in self.sites:
             if token and not site.keeps_secrets():
-                raise ValueError(f"{site.address}: a token is not sent over http to another machine, since others could read it: use https")
+                raise ValueError(
+                    f"{site.address}: a token is not sent over http to another machine, since others could read it: "
+                    "use https")
         self.token, self.timeout = token, timeout
+        # gets each failure after which a post is sent again
+        self.waits: Callable[[Failed], None] = lambda failure: None
         self.place = 0  # of the site that is asked next
 
     def close(self) -> None:
@@ -271,11 +312,13 @@ class Client:
         return self.sites[self.place].address
 
     def get(self, path: str, **headers: str) -> Answer:
-        """The answer to a question, whatever its status is. Another site is asked if the connection to one is broken."""
+        """The answer to a question, whatever its status is. Another site is asked if the connection to one is
+        broken."""
         return self._first(lambda site: site.ask("GET", path, None, self._head(headers), self.timeout))
 
     def post(self, path: str, body: bytes, **headers: str) -> Answer:
-        """The answer to a body, as `get` has it. After a broken connection nobody knows whether a site took it, and it is sent again."""
+        """The answer to a body, as `get` has it. After a broken connection nobody knows whether a site took it, and it
+        is sent again."""
         return self._first(lambda site: site.ask("POST", path, body, self._head(headers), self.timeout))
 
     @contextlib.contextmanager
@@ -290,8 +333,9 @@ class Client:
     def posted(self, lines: list[bytes], until: float) -> list[dict[str, int | str]]:
         """The outcomes of lines that have no line feeds, in their order. Blank lines have none.
 
-        The lines are sent again, to the next site, until a moment of `time.monotonic`. Failed if a site refuses them for good, or if they
-        are not acknowledged in time. Then nobody knows which of them were taken, and they may be sent again later.
+        The lines are sent again, to the next site, until a moment of `time.monotonic`. Failed if a site refuses them
+        for good, or if they are not acknowledged in time. Then nobody knows which of them were taken, and they may be
+        sent again later.
         """
         numbers = [number for number, line in enumerate(lines, 1) if line.strip(BLANK)]
         if not numbers:
@@ -326,9 +370,10 @@ class Client:
             except FAULTS as fault:
                 self.place = (self.place + 1) % len(self.sites)
                 if not left:
-                    raise failure_by(site.address, fault) from None
+                    raise site.failure(fault) from None
 
-    def _opened(self, site: Site, path: str, headers: dict[str, str]) -> tuple[http.client.HTTPConnection, http.client.HTTPResponse]:
+    def _opened(self, site: Site, path: str, headers: dict[str, str]) -> tuple[http.client.HTTPConnection,
+                                                                               http.client.HTTPResponse]:
         """An answer that has begun, on a connection of its own."""
         connection = site.fresh()
         try:
@@ -342,7 +387,8 @@ class Client:
 
     def _acknowledged(self, path: str, body: bytes, kind: str, is_right: Callable[[list[dict[str, Any]]], bool],
                       until: float) -> list[dict[str, Any]]:
-        """The outcomes with which a site answers a post. It is sent again until there are some, or until it fails for good."""
+        """The outcomes with which a site answers a post. It is sent again until there are some, or until it fails for
+        good."""
         pause, left = FIRST_PAUSE, list(self.sites)
         failure: Failed
         while True:
@@ -363,7 +409,7 @@ class Client:
         try:
             answer = site.ask("POST", path, body, self._head({"Content-Type": kind}), seconds)
         except FAULTS as fault:
-            raise failure_by(site.address, fault) from None
+            raise site.failure(fault) from None
         if answer.status != 200:
             raise failure_of(site.address, answer)
         outcomes = outcomes_in(answer.body)
@@ -371,13 +417,14 @@ class Client:
             raise failure(site.address, "the answer lacks the outcome of some line", answer, Later)
         return outcomes
 
-    def _go_on(self, left: list[Site], pause: float, until: float, failure: Exception | Elsewhere) -> None:
+    def _go_on(self, left: list[Site], pause: float, until: float, failure: Failed) -> None:
         """Waits, and goes on to the next site that may be asked. The failure stays if there is none in time."""
         now = time.monotonic()
         in_turn = [site for site in self.sites[self.place + 1:] + self.sites[:self.place + 1] if site in left]
         moments = [max(now + pause, site.free_at) for site in in_turn]
         if not moments or min(moments) > until:
             raise failure
+        self.waits(failure)
         time.sleep(min(moments) - now)
         self.place = self.sites.index(in_turn[moments.index(min(moments))])
 
@@ -386,10 +433,12 @@ class Client:
 
 def add_options(parser: argparse.ArgumentParser) -> None:
     """The options that say who asks, for a parser of argparse."""
-    parser.add_argument("--token-file", metavar="FILE", help="a file with the token (without it the variable NILUPPANG_TOKEN)")
+    parser.add_argument("--token-file", metavar="FILE",
+                        help="a file with the token (without it the variable NILUPPANG_TOKEN)")
     parser.add_argument("--cert", metavar="FILE", help="the certificate that is shown to sites")
     parser.add_argument("--key", metavar="FILE", help="the key of that certificate, if it is not in the same file")
-    parser.add_argument("--ca", metavar="FILE", help="who signs the certificates of sites (without it the authorities of the system)")
+    parser.add_argument("--ca", metavar="FILE",
+                        help="who signs the certificates of sites (without it the authorities of the system)")
 
 
 def client_of(args: argparse.Namespace, addresses: list[str]) -> Client:

@@ -5,12 +5,7 @@ import collections
 import json
 import secrets
 from typing import Any
-
-MOST_EVENTS, MOST_BYTES = 1000, 8 << 20  # events, and their bytes, that are kept for a page that comes back
-MOST_EVENT = 1 << 20  # bytes of an event: after a longer one a page loads again
-MOST_BEHIND, MOST_BEHIND_BYTES = 200, 4 << 20  # events, and their bytes, that may wait for a slow page
-MOST_NAMES = 2000  # changed transfers that an event names; after more of them a page loads again
-MOST_DIGITS = 18
+from . import limits
 
 
 class Queue(asyncio.Queue):
@@ -29,18 +24,20 @@ class Events:
     def add(self, changes: list[tuple[str, str, str | None]] | None) -> None:
         """Publishes changed transfers, or with None that a page has to load again."""
         self.number += 1
-        transfers: list[dict[str, Any]] = [{"bank": bank, "tx": tx, **({} if lines is None else {"lines": lines.splitlines()})}
+        transfers: list[dict[str, Any]] = [{"bank": bank, "tx": tx,
+                                            **({} if lines is None else {"lines": lines.splitlines()})}
                                            for bank, tx, lines in changes or []]
-        event = self.text("transfers", transfers) if changes is not None and len(transfers) <= MOST_NAMES else self.text("reset", [])
-        if len(event) > MOST_EVENT:
+        is_known = changes is not None and len(transfers) <= limits.EVENT_MOST_TRANSFERS
+        event = self.text("transfers", transfers) if is_known else self.text("reset", [])
+        if len(event) > limits.EVENT_MOST_BYTES:
             event = self.text("reset", [])
         self.last.append((self.number, event))
         self.size += len(event)
-        while len(self.last) > MOST_EVENTS or self.size > MOST_BYTES:
+        while len(self.last) > limits.EVENTS_MOST or self.size > limits.EVENTS_MOST_BYTES:
             self.size -= len(self.last.popleft()[1])
         for queue in list(self.queues):
             queue.bytes += len(event)
-            if queue.qsize() >= MOST_BEHIND or queue.bytes > MOST_BEHIND_BYTES:
+            if queue.qsize() >= limits.BEHIND_MOST_EVENTS or queue.bytes > limits.BEHIND_MOST_BYTES:
                 self.queues.discard(queue)  # the page is too slow: it is cut off, and comes back
                 queue.put_nowait(None)
             else:
@@ -60,7 +57,7 @@ class Events:
         if not last:
             return [self.text("begin", [])]
         began, _, number = last.partition("-")
-        is_number = number.isascii() and number.isdigit() and len(number) <= MOST_DIGITS
+        is_number = number.isascii() and number.isdigit() and len(number) <= limits.EVENT_NUMBER_DIGITS
         if began != self.began or not is_number or not self.number - len(self.last) <= int(number) <= self.number:
             return [self.text("reset", [])]
         return [event for count, event in self.last if count > int(number)]

@@ -1,6 +1,6 @@
-"""finding.py: finds transfers by what a caller knows of them, in the mirror of the site: a TxId, an EndToEndId, an IBAN or an amount.
+"""finding.py: asks the mirror of a site: for transfers by what a caller knows of them, and for what the desk has to do.
 
-The mirror is the database that mirror.py keeps. The question is the one of the desk, `find` of queries.sql.
+The mirror is the database that mirror.py keeps. The questions are those of the desk (seeking.py).
 """
 from __future__ import annotations
 import asyncio
@@ -9,48 +9,103 @@ import json
 import pathlib
 import sqlite3
 import time
-from typing import Any
+from typing import Any, Callable, Iterable, NamedTuple
+from . import limits
+from .faults import BadText, NoMirror, Unable
 from .files import Wrong
-from .keeper import Unable
 from .places import desk_module
 
-MOST_FOUND = 100
-MOST_AT_ONCE = 2
-SECONDS = 10.0  # for a question
-STEPS = 10_000  # of SQLite, after which the clock is looked at
-# what an answer has of a row of the question
-CELLS = ("at", "bank", "tx", "status", "amount", "endToEnd", "debtorIban", "creditorIban", "beneficiary")
+OF_TOTALS, LATEST = "totals", "latest"
+
+Rows = Iterable[dict[str, Any]]
+Question = Callable[[sqlite3.Connection], "tuple[Rows, dict[str, Any]]"]
 
 
-class NoMirror(Exception):
-    """The site has no mirror."""
+class Found(NamedTuple):
+    """The lines of an answer, whether there are more, the vector of which the tables have everything, and how the
+    question was read."""
+    lines: str
+    is_partial: bool
+    vector: str
+    read: dict[str, Any]
 
 
 class Finder:
-    """Finds transfers in a database. `path` is that of the database, or None."""
+    """Asks a database. `path` is that of the database, or None."""
 
     def __init__(self, path: str | None = None) -> None:
-        self.path, self.room = path, asyncio.Semaphore(MOST_AT_ONCE)
+        self.path = path
 
-    async def find(self, what: str, number: int, group: int) -> tuple[str, bool, str]:
-        """The lines of an answer, whether there are more, and the vector of which the tables have everything."""
+    async def find(self, query: Any, number: int, group: int) -> Found:
+        """Transfers: those that have what is sought, the newest first, or those that are named."""
+        of, first = query.getall("of", []), first_of(query)
+        if of:
+            return await self._answer(these(of), number, group)
+        return await self._answer(sought(query.get("what", "")[:limits.SOUGHT_MOST_CHARACTERS], first), number, group)
+
+    async def work(self, query: Any, number: int, group: int) -> Found:
+        """A list of what is to be done, the oldest first, or how many rows each of them has, or totals of a day."""
+        name, first, bank = query.get("list", ""), first_of(query), query.get("bank")
+        seeking, fields = desk_module("seeking"), desk_module("fields")
+        if name not in ("", OF_TOTALS, LATEST, *seeking.WORK):
+            raise BadText(f"there is no list {name[:20]}: it is one of {', '.join((*seeking.WORK, OF_TOTALS, LATEST))}")
+        if bank is not None and not fields.is_bic(bank):
+            raise BadText(f"the bank is not {fields.A_BIC}")
+        if name == OF_TOTALS and not fields.is_day(query.get("day", "")):
+            raise BadText(f"the day is not {fields.A_DAY}")
+        questions: dict[str, Callable[[sqlite3.Connection], Rows]] = {
+            "": seeking.counts, OF_TOTALS: lambda its: seeking.totals(its, query["day"]),
+            LATEST: lambda its: seeking.latest(its, limits.FOUND_MOST_ROWS)}
+        ask = questions.get(name) or (lambda its: seeking.work(its, name, bank and fields.bank(bank), first,
+                                                               limits.FOUND_MOST_ROWS + 1))
+        return await self._answer(lambda its: (ask(its), {}), number, group, is_whole=name in questions)
+
+    async def _answer(self, question: Question, number: int, group: int, is_whole: bool = False) -> Found:
         if self.path is None:
             raise NoMirror("this site has no mirror, which finds transfers")
-        async with self.room:
-            return await asyncio.to_thread(self._lines_on, self.path, what, number, group)
+        return await asyncio.to_thread(self._answered, self.path, question, number, group, is_whole)
 
-    def _lines_on(self, path: str, what: str, number: int, group: int) -> tuple[str, bool, str]:
+    def _answered(self, path: str, question: Question, number: int, group: int, is_whole: bool) -> Found:
         try:
-            _, select = desk_module("ask_sqlite").questions()["find"]
-            with contextlib.closing(sqlite3.connect(f"{pathlib.Path(path).resolve().as_uri()}?mode=ro", uri=True)) as connection:
-                end = time.monotonic() + SECONDS
-                connection.set_progress_handler(lambda: time.monotonic() > end, STEPS)
+            with contextlib.closing(sqlite3.connect(f"{pathlib.Path(path).resolve().as_uri()}?mode=ro",
+                                                    uri=True)) as connection:
+                end = time.monotonic() + limits.FIND_SECONDS
+                connection.set_progress_handler(lambda: time.monotonic() > end, limits.FIND_STEPS)
                 connection.execute("BEGIN")
                 vector = vector_in(connection, number, group)
-                rows = connection.execute(select, {"what": what}).fetchmany(MOST_FOUND + 1)
+                rows, read = question(connection)
+                lines = [json.dumps(row, ensure_ascii=False) + "\n" for row in rows]
         except (sqlite3.Error, Wrong) as fault:
             raise Unable(f"the mirror cannot be asked: {fault}") from None
-        return "".join(line_of(row) for row in rows[:MOST_FOUND]), len(rows) > MOST_FOUND, vector
+        most = len(lines) if is_whole else limits.FOUND_MOST_ROWS
+        return Found("".join(lines[:most]), len(lines) > most, vector, read)
+
+
+def first_of(query: Any) -> int:
+    """How many rows come before those of an answer."""
+    text = query.get("from", "0")
+    if not text.isascii() or not text.isdecimal() or len(text) > 7 or int(text) > limits.FOUND_MOST_FIRST:
+        raise BadText(f"from is not a number up to {limits.FOUND_MOST_FIRST}")
+    return int(text)
+
+
+def sought(text: str, first: int) -> Question:
+    """Transfers that have what is sought, and how that is read."""
+    seeking = desk_module("seeking")
+
+    def ask(connection: sqlite3.Connection) -> tuple[Rows, dict[str, Any]]:
+        its = seeking.read(connection, text)
+        return seeking.found(connection, its, first, limits.FOUND_MOST_ROWS + 1), seeking.said(its)
+    return ask
+
+
+def these(names: list[str]) -> Question:
+    """The transfers of some names, each a bank and an identification with a slash between them."""
+    keys = [(bank, tx) for bank, slash, tx in (name.partition("/") for name in names) if slash]
+    if len(keys) != len(names) or len(names) > limits.FOUND_MOST_NAMED:
+        raise BadText(f"of is BANK/TXID, at most {limits.FOUND_MOST_NAMED} times")
+    seeking = desk_module("seeking")
+    return lambda its: (seeking.these(its, keys), {})
 
 
 def vector_in(connection: sqlite3.Connection, number: int, group: int) -> str:
@@ -59,8 +114,3 @@ def vector_in(connection: sqlite3.Connection, number: int, group: int) -> str:
     if row is None or row[:2] != (number, group):
         raise Unable(f"the mirror is not one of site {number} of {group}")
     return row[2]
-
-
-def line_of(row: tuple[Any, ...]) -> str:
-    """The line of an answer for a row, without what it lacks."""
-    return json.dumps({name: cell for name, cell in zip(CELLS, row) if cell is not None}, ensure_ascii=False) + "\n"

@@ -1,39 +1,38 @@
-"""guard.py: who may ask, and how much of the memory and of the time of a site they may use.
+"""guard.py: who may ask, and how a connection is ended.
 
-Nobody is let in by a name that is not that of the site, since a page of the web can give its own name the address of the site. Each
-request has limits before its body is read: connections, seconds for its head, bytes of bodies for all connections together.
+Nobody is let in by a name that is not that of the site, since a page of the web can give its own name the address of
+the site.
 """
 from __future__ import annotations
 import asyncio
-import math
+import asyncio.trsock
+import contextlib
 import socket
 import struct
 import time
 import urllib.parse
-from typing import TYPE_CHECKING
-from .access import NOBODY, Roles, Who
-from .keeper import Busy
+from typing import Any, TYPE_CHECKING
+from .access import NOBODY, Roles, Who, names_in
+from .faults import Forbidden
+from .mirroring import Inner
+from .tls import shown, until_of
 if TYPE_CHECKING:
     from aiohttp import web
 
-LOCAL = {"localhost", "127.0.0.1", "::1"}
-BUFFERED = 512 << 10  # bytes of an answer that the system holds for a client
-RATE = 1 << 20  # bytes of an answer for which it has one second more
-
-
-class Forbidden(Exception):
-    """Why a request is not answered, and the status that says so."""
-
-    def __init__(self, why: str, status: int = 403) -> None:
-        super().__init__(why)
-        self.status = status
+LOCAL_NAMES = {"localhost", "127.0.0.1", "::1"}
 
 
 class Guard:
-    """The names of a site, and who is who. It is changed while the site runs."""
+    """The names of a site, who is who, and which certificates are revoked. It is changed while the site runs."""
+    revoked: frozenset[int] = frozenset()
+    inner: Inner | None = None  # where the mirror of the site asks
 
     def __init__(self, names: list[str], roles: Roles) -> None:
-        self.names, self.roles = LOCAL | set(names), roles
+        self.names, self.roles = LOCAL_NAMES | {name.lower() for name in names}, roles
+
+    def clients(self) -> int:
+        """Among how many a site is shared: all who have a role, and one more for those who have none."""
+        return 1 if self.roles.is_open else len(self.roles.all) + 1
 
     def check(self, request: web.Request) -> None:
         """Forbidden if a request must not be answered because of where it comes from."""
@@ -54,12 +53,24 @@ class Guard:
             raise Forbidden("a body is taken as it is, and not encoded", 415)
 
     def who(self, request: web.Request) -> Who:
-        """Who asks. Forbidden if it shows a token that nobody has."""
-        certificate = request.transport.get_extra_info("peercert") if request.transport else None
-        who = self.roles.who(certificate, request.headers.get("Authorization", ""))
+        """Who asks. Forbidden if it shows a token that nobody has, or a certificate that is not valid any more."""
+        authorization = request.headers.get("Authorization", "")
+        certificate = shown(request.transport.get_extra_info("ssl_object")) if request.transport else None
+        if certificate:
+            self._must_be_valid(certificate)
+        is_inner = self.inner is not None and self.inner.has(request.transport)
+        who = self.inner.who(authorization) if self.inner and is_inner else self.roles.who(certificate, authorization)
         if who is None:
             raise Forbidden("nobody has this token, or several have this certificate", 401)
         return who
+
+    def _must_be_valid(self, certificate: dict[str, Any]) -> None:
+        """Forbidden if a certificate expired or was revoked since its connection began."""
+        names = ", ".join(names_in(certificate))
+        if time.time() > until_of(certificate):
+            raise Forbidden(f"the certificate of {names} has expired", 401)
+        if int(certificate["serialNumber"], 16) in self.revoked:
+            raise Forbidden(f"the certificate of {names} is revoked", 401)
 
     def must(self, who: Who, roles: tuple[str, ...]) -> None:
         """Forbidden unless somebody has one of some roles."""
@@ -68,53 +79,23 @@ class Guard:
             raise Forbidden(f"this needs the role {' or '.join(roles)}", status)
 
 
-class Budget:
-    """Bytes that bodies of all connections may have together."""
-
-    def __init__(self, most: int) -> None:
-        self.most, self.used = most, 0
-
-    def take(self, size: int) -> None:
-        if self.used + size > self.most:
-            raise Busy()
-        self.used += size
-
-    def give(self, size: int) -> None:
-        self.used -= size
-
-
-class TooMany(Exception):
-    """A client posts too much, and the seconds after which it may go on."""
-
-    def __init__(self, seconds: int) -> None:
-        super().__init__("too many lines of one client")
-        self.seconds = seconds
-
-
-class Rates:
-    """Lines that a client may post: so many a second, and so many at once."""
-    left: dict[str, tuple[float, float]]
-
-    def __init__(self, rate: int, most: int) -> None:
-        self.rate, self.most, self.left = rate, most, {}
-
-    def take(self, name: str, many: int) -> None:
-        left, at = self.left.get(name, (self.most, 0.0))
-        now = time.monotonic()
-        left = min(self.most, left + (now - at) * self.rate)
-        if many > left:
-            raise TooMany(math.ceil((many - left) / self.rate))
-        self.left[name] = left - many, now
+def address_text(peer: tuple[Any, ...] | None) -> str:
+    """The address of a client as the record and the log have it."""
+    return f"{peer[0]}:{peer[1]}" if peer else ""
 
 
 def cut_off(transport: asyncio.Transport | None) -> None:
-    """Ends a connection at once. What was not sent yet is dropped: else the system keeps it until the other side takes it."""
+    """Ends a connection at once."""
     if transport is None:
         return
     its = transport.get_extra_info("socket")
     if its is not None:
-        try:
-            its.setsockopt(socket.SOL_SOCKET, socket.SO_LINGER, struct.pack("ii", 1, 0))
-        except OSError:
-            pass  # the other side has ended it
+        drop_unsent(its)
     transport.abort()
+
+
+def drop_unsent(its: socket.socket | asyncio.trsock.TransportSocket) -> None:
+    """Has the system drop what a socket has not sent when it is closed: else it keeps that until the other side takes
+    it."""
+    with contextlib.suppress(OSError):  # the other side may have ended it
+        its.setsockopt(socket.SOL_SOCKET, socket.SO_LINGER, struct.pack("ii", 1, 0))

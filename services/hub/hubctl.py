@@ -1,11 +1,12 @@
-"""hubctl.py: asks the sites of a hub, and posts messages at them, from any machine. It needs Python 3.8, and client.py of its folder.
+"""hubctl.py: asks the sites of a hub, and posts messages at them, from any machine. It needs Python 3.8, and client.py
+of its folder.
 
-A post goes to one of the sites, and again to the next one until each message has an outcome. Other commands ask the first site that
-answers. Answers go to standard output as they come. An error is a line on standard error: the site, the status, what it said, and the
-identification that the request has in the records of the site.
+A post goes to one of the sites, and again to the next one until each message has an outcome. Other commands ask the
+first site that answers. Answers go to standard output as they come. An error is a line on standard error: the site, the
+status, what it said, and the identification that the request has in the records of the site.
 
-The exit status is 0 if all is well. It is 1 if messages were refused or forbidden, which standard error lists, or if no transfer was found.
-It is 2 after an error: what is not acknowledged then may be posted again.
+The exit status is 0 if all is well. It is 1 if messages were refused or forbidden, which standard error lists, or if no
+transfer was found. It is 2 after an error: what is not acknowledged then may be posted again.
 """
 from __future__ import annotations
 import argparse
@@ -43,9 +44,11 @@ def opened(path: str) -> contextlib.AbstractContextManager[BinaryIO]:
 
 
 def printed(data: bytes) -> None:
-    """Writes an answer. On a terminal what could steer it is shown as a question mark: a name may have any character."""
+    """Writes an answer. On a terminal what could steer it is shown as a question mark: a name may have any
+    character."""
     if sys.stdout.isatty():
-        data = "".join(sign if sign.isprintable() or sign in "\n\t" else "?" for sign in data.decode(errors="replace")).encode()
+        data = "".join(sign if sign.isprintable() or sign in "\n\t" else "?"
+                       for sign in data.decode(errors="replace")).encode()
     sys.stdout.buffer.write(data)
     sys.stdout.buffer.flush()
 
@@ -68,7 +71,8 @@ def remarks(outcome: dict[str, Any]) -> Iterator[str]:
         yield f"note: {outcome['note']}"
 
 
-def noted(counts: collections.Counter[str], outcomes: list[dict[str, Any]], place_of: Callable[[dict[str, Any]], str]) -> None:
+def noted(counts: collections.Counter[str], outcomes: list[dict[str, Any]],
+          place_of: Callable[[dict[str, Any]], str]) -> None:
     """Counts outcomes. Standard error lists what is said of them, each with its place."""
     counts.update(outcome["outcome"] for outcome in outcomes)
     for line in (f"{place_of(outcome)}: {remark}" for outcome in outcomes for remark in remarks(outcome)):
@@ -121,10 +125,18 @@ def text(path_of: Callable[[argparse.Namespace], str]) -> Command:
             for line in lines:
                 sys.stdout.buffer.write(line)
             sys.stdout.buffer.flush()
-            if "Niluppang-Partial" in lines.headers:
-                print("hubctl: this is the beginning of a longer delta: ask again with what it adds", file=sys.stderr)
         return 0
     return command
+
+
+def transfer(its: client.Client, args: argparse.Namespace) -> int:
+    """Prints the findings on a transfer. The exit status is 1 if no message is on it."""
+    answer = good(its, its.get(quoted("transfers", args.originator, args.tx)))
+    printed(answer.body)
+    if answer.body.startswith(b"T|") and answer.body.rstrip(b"\n").endswith(b"|UNKNOWN"):
+        print("hubctl: no such transfer: compare its bank and its TxId", file=sys.stderr)
+        return 1
+    return 0
 
 
 def find(its: client.Client, args: argparse.Namespace) -> int:
@@ -132,7 +144,7 @@ def find(its: client.Client, args: argparse.Namespace) -> int:
     answer = good(its, its.get(f"/find?{urllib.parse.urlencode({'what': os.fsencode(args.what)})}"))
     printed(answer.body)
     if "Niluppang-Partial" in answer.headers:
-        print("hubctl: there are more: name the bank and the TxId", file=sys.stderr)
+        print("hubctl: there are more: name a bank or a day too", file=sys.stderr)
     if not answer.body:
         print("hubctl: no such transfer", file=sys.stderr)
     return 0 if answer.body else 1
@@ -160,6 +172,95 @@ def health(its: client.Client, _: argparse.Namespace) -> int:
     return 0
 
 
+# ---- what sites hold, by its digests
+
+MOST_AT = 64  # digests of one question
+
+
+def held_by(its: client.Client, counts: dict[int, int] | None = None) -> dict[int, tuple[int, str]]:
+    """The digests of a site, by origin, each with its count: of all that it holds, or at these counts."""
+    parts = [""] if counts is None else ["?at=" + ",".join(f"{origin}:{count}" for origin, count in some)
+                                         for some in pieces(sorted(counts.items()))]
+    found = {}
+    for part in parts:
+        for line in good(its, its.get(f"/digests{part}")).body.decode(errors="replace").splitlines():
+            try:
+                origin, count, digits = line.split(":")
+                found[int(origin)] = int(count), digits
+            except ValueError:
+                raise client.Failed(f"{its.address()}: {client.one_line(line)} is not a digest") from None
+    if counts is not None and any(found.get(origin, (0,))[0] != count for origin, count in counts.items()):
+        raise client.Failed(f"{its.address()}: it has not the digests that it was asked for")
+    return found
+
+
+def pieces(items: list[tuple[int, int]]) -> Iterator[list[tuple[int, int]]]:
+    for place in range(0, len(items), MOST_AT):
+        yield items[place:place + MOST_AT]
+
+
+def first_that_differs(both: list[client.Client], origin: int, count: int) -> int:
+    """The first entry of an origin that two sites hold differently: the digests of this count differ, and those of no
+    entries are equal."""
+    equal, differs = 0, count
+    while differs - equal > 1:
+        middle = (equal + differs) // 2
+        one, other = (held_by(its, {origin: middle})[origin] for its in both)
+        equal, differs = (middle, differs) if one == other else (equal, middle)
+    return differs
+
+
+def compare(its: client.Client, args: argparse.Namespace) -> int:
+    """Prints where two sites differ, or that they do not. The exit status is 1 if they differ."""
+    both = [its, client.client_of(args, [args.other])]
+    held = [held_by(one) for one in both]
+    common = {origin: min(count, held[1][origin][0]) for origin, (count, _) in held[0].items() if origin in held[1]}
+    one, other = (held_by(site, common) for site in both)
+    differ = [origin for origin in sorted(common) if one[origin] != other[origin]]
+    for origin in differ:
+        print(f"entry {first_that_differs(both, origin, common[origin])} of site {origin} is the first that "
+              f"differs, of {common[origin]} that both hold")
+    if not differ:
+        print(f"equal at {','.join(f'{origin}:{count}' for origin, count in sorted(common.items())) or '-'}")
+    for site, its_own, its_other in (args.first, held[0], held[1]), (args.other, held[1], held[0]):
+        for origin, (count, _) in sorted(its_own.items()):
+            more = count - its_other.get(origin, (0, ""))[0]
+            if more > 0:
+                print(f"{site} has {more} more of site {origin}")
+    return 1 if differ else 0
+
+
+def proof(its: client.Client, args: argparse.Namespace) -> int:
+    """Prints what shows that the messages on a transfer were held, as JSON: each with its number and the digests before
+    it and with it, and which sites have the same digest. The exit status is 1 if there is no such message, or if a site
+    has another digest."""
+    answer = good(its, its.get(quoted("transfers", args.originator, args.tx, "proof")))
+    entries = [json.loads(line) for line in answer.body.splitlines()]
+    for entry in entries:
+        entry["sites"] = [asked_for(site, args, entry) for site in args.addresses]
+    printed(json.dumps({"at": time.strftime("%Y-%m-%dT%H:%M:%SZ", time.gmtime()),
+                        "transfer": f"{args.originator} {args.tx}", "entries": entries},
+                       indent=1, ensure_ascii=False).encode() + b"\n")
+    if not entries:
+        print("hubctl: no message on such a transfer is held", file=sys.stderr)
+    others = [site for entry in entries for site in entry["sites"] if site["digest"] not in (None, entry["after"])]
+    for site in others:
+        print(f"hubctl: {site['url']} has another digest: the sites differ", file=sys.stderr)
+    return 0 if entries and not others else 1
+
+
+def asked_for(address: str, args: argparse.Namespace, entry: dict[str, Any]) -> dict[str, Any]:
+    """What a site answers for the digest of the entries up to one: none if it does not answer, or does not hold as
+    many."""
+    its = client.client_of(args, [address])
+    try:
+        digits = held_by(its, {entry["origin"]: entry["number"]})[entry["origin"]][1]
+    except client.Failed as fault:
+        print(f"hubctl: {fault}", file=sys.stderr)
+        digits = None
+    return {"url": address, "digest": digits}
+
+
 def events_of(lines: client.Lines) -> Iterator[dict[str, str]]:
     """The events of a stream, each as its fields. One without fields shows that the stream is alive."""
     fields = {}
@@ -173,7 +274,8 @@ def events_of(lines: client.Lines) -> Iterator[dict[str, str]]:
 
 
 class Following:
-    """Follows what changes at a site. `last` is the mark of the last event, and `is_alive` says that something came after that."""
+    """Follows what changes at a site. `last` is the mark of the last event, and `is_alive` says that something came
+    after that."""
     last: str | None
 
     def __init__(self, its: client.Client) -> None:
@@ -225,17 +327,23 @@ WORDS: dict[str, dict[str, Any]] = {
     "bank": BANK, "one_bank": {**BANK, "nargs": "?"},
     "day": {"metavar": "DAY", "help": "the day of the list, such as 2025-03-10"},
     "list": {"metavar": "LIST", "help": "the list as CSV; - is standard input"},
-    "have": {"metavar": "HAVE", "help": "the vector, such as 1:20,3:7; - is that of nothing"},
+    "site": {"metavar": "SITE", "help": "the number of a site"},
+    "first": {"metavar": "URL", "help": "the address of a site"},
+    "other": {"metavar": "URL", "help": "the address of the other one"},
+    "count": {"metavar": "COUNT", "help": "how many messages of it are known already, or 0"},
 }
 TRANSFER = "originator tx"
 # what each command does, what its help says, and its words
 COMMANDS = {
     "post": (post, "post the JSON lines of a file", "file"),
     "xml": (xml, "post files of ISO 20022 messages in XML", "files"),
-    "transfer": (text(lambda its: quoted("transfers", its.originator, its.tx)), "print the findings on a transfer", TRANSFER),
-    "messages": (text(lambda its: quoted("transfers", its.originator, its.tx, "messages")), "print the messages on a transfer", TRANSFER),
-    "find": (find, "print the transfers with a TxId, an EndToEndId, an IBAN or an amount, of any bank, by the mirror of the site", "what"),
-    "totals": (text(lambda its: quoted("totals", *filter(None, [its.one_bank]))), "print the totals of all banks, or of one", "one_bank"),
+    "transfer": (transfer, "print the findings on a transfer; the exit status is 1 if no message is on it", TRANSFER),
+    "messages": (text(lambda its: quoted("transfers", its.originator, its.tx, "messages")),
+                 "print the messages on a transfer", TRANSFER),
+    "find": (find, "print the transfers that have all that a caller knows, by the mirror of the site, the newest first",
+             "what"),
+    "totals": (text(lambda its: quoted("totals", *filter(None, [its.one_bank]))),
+               "print the totals of all banks, or of one", "one_bank"),
     "report": (report, "print the report on a list of a bank", "bank day list"),
     "status": (text(lambda _: "/status"), "print the findings on all transfers", ""),
     "archive": (text(lambda _: "/archive"), "print all messages", ""),
@@ -243,15 +351,38 @@ COMMANDS = {
     "waiting": (text(lambda _: "/waiting"), "print the messages that wait for their instruction at the site", ""),
     "vector": (text(lambda _: "/vector"), "print how many messages of each site the site holds", ""),
     "health": (health, "print whether the site takes messages", ""),
-    "changes": (changes, "print changed transfers as they come, each event as a line of JSON; the first event is a mark", ""),
-    "delta": (text(lambda its: f"/delta?{urllib.parse.urlencode({'have': its.have})}"), "print what a site holds above a vector", "have"),
+    "compare": (compare, "print where two sites differ in what they hold, or that they do not", "first other"),
+    "proof": (
+        proof,
+        "print what shows that the messages on a transfer were held, and which sites of --url have the same, as JSON",
+        TRANSFER),
+    "changes": (changes,
+                "print changed transfers as they come, each event as a line of JSON; the first event is a mark", ""),
+    "delta": (text(lambda its: f"/delta?{urllib.parse.urlencode({'of': its.site, 'have': f'{its.site}:{its.count}'})}"),
+              "print the first messages of one site that the site holds above a count, as a delta", "site count")
 }
 
 
+class Waits:
+    """Prints the first failure of each kind after which something is sent again. What is sent again is not lost."""
+
+    def __init__(self) -> None:
+        self.seen: set[str] = set()
+
+    def __call__(self, failure: client.Failed) -> None:
+        text = str(failure).partition(" (request ")[0]
+        if text not in self.seen:
+            self.seen.add(text)
+            print(f"hubctl: {text}; it is sent again", file=sys.stderr, flush=True)
+
+
 def options(words: list[str]) -> argparse.Namespace:
-    parser = argparse.ArgumentParser(prog="hubctl", description=__doc__, formatter_class=argparse.RawDescriptionHelpFormatter)
-    parser.add_argument("--url", action="append", metavar="URL",
-                        help="the address of a site; several may be given (without it the variable NILUPPANG_URL has them, between blanks)")
+    parser = argparse.ArgumentParser(prog="hubctl", description=__doc__,
+                                     formatter_class=argparse.RawDescriptionHelpFormatter)
+    parser.add_argument(
+        "--url", action="append", metavar="URL",
+        help="the address of a site; several may be given (without it the variable NILUPPANG_URL has them, "
+        "between blanks)")
     client.add_options(parser)
     commands = parser.add_subparsers(dest="command", metavar="COMMAND", required=True)
     for name, (run, does, places) in COMMANDS.items():
@@ -260,7 +391,8 @@ def options(words: list[str]) -> argparse.Namespace:
         for place in places.split():
             command.add_argument(place, **WORDS[place])
         if name in ("post", "xml", "changes"):
-            command.add_argument("--seconds", metavar="N", type=float, default=SECONDS, help=f"give up after N seconds ({SECONDS})")
+            command.add_argument("--seconds", metavar="N", type=float, default=SECONDS,
+                                 help=f"give up after N seconds ({SECONDS})")
         if name == "changes":
             command.add_argument("-n", "--events", metavar="N", type=int, default=0, help="end after N events")
     return parser.parse_args(words)
@@ -280,10 +412,14 @@ def complain(why: Exception | client.Elsewhere | str) -> int:
 def main() -> None:
     args = options(sys.argv[1:])
     try:
-        addresses = args.url or os.environ.get("NILUPPANG_URL", "").split()
+        addresses = [args.first] if args.command == "compare" else args.url or os.environ.get("NILUPPANG_URL",
+                                                                                              "").split()
+        args.addresses = addresses
         if not addresses:
             raise ValueError("name a site by --url, or by the variable NILUPPANG_URL")
-        status = args.run(client.client_of(args, addresses), args)
+        its = client.client_of(args, addresses)
+        its.waits = Waits()
+        status = args.run(its, args)
         sys.stdout.flush()
     except BrokenPipeError:
         end_by(signal.SIGPIPE)

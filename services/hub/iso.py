@@ -1,10 +1,13 @@
-"""iso.py: ISO 20022 messages in XML as lines, for POST /iso20022. The converter of the desk, from_iso20022.py, makes them.
+"""iso.py: ISO 20022 messages in XML as lines, for POST /iso20022. The converter of the desk, from_iso20022.py, makes
+them.
 
-The recall that an answer is about is looked up in the site, and not in an archive. If the site holds the answer already, its line gets
-the same recall again: so a message that is sent twice is a repeat. The site is asked by bank and identification. So an answer that does
-not name the originator bank needs its instruction or its recall in the same body.
+The recall that an answer is about is looked up in the site, and not in an archive. If the site holds the answer
+already, its line gets the same recall again: so a message that is sent twice is a repeat. The site is asked by bank and
+identification. So an answer that does not name the originator bank needs its instruction or its recall in the same
+body.
 
-A short XML text can cost much memory and time. So what costs is limited, as early as it can be seen, and two bodies are read at a time.
+A short XML text can cost much memory and time. So what costs is limited, as early as it can be seen, and bodies are
+read beside the site (converting.py).
 """
 from __future__ import annotations
 import asyncio
@@ -13,62 +16,49 @@ import re
 import types
 from typing import Any, Awaitable, Callable, Iterable, NamedTuple
 from xml.etree import ElementTree
-from . import keeper
-from .files import Wrong
-from .keeper import Refused, Unable
+from . import limits
+from .faults import BadText, Refused
 from .places import desk_module
-from .vectors import BadText
+from .work import Outcome, outcome_line as line_of_outcome
 
-MOST = 1000  # messages of a body, and transactions of all of them
-MOST_SIGNS = 500_000  # signs that begin an element, an attribute or a piece of a text
-MOST_TEXT = 8 << 10  # characters from one tag to the next, and of a text
-MOST_DEPTH, MOST_NAMES, MOST_SPACE = 30, 1000, 200  # elements in each other, different names, and characters of a name space
-MOST_BESIDE = 200_000  # elements beside the transactions of a message, times its transactions: each transaction looks at them
-MOST_LINES = 8 << 20  # bytes of all lines: what is beside the transactions is in the line of each
-MOST_WHY = 500  # characters of a reason
-AT_ONCE = 16  # transfers that are looked up together
-PIECE = 1 << 16
 SIGNS = "<=&\r\n"
-FAR = re.compile(f"<[^<]{{{MOST_TEXT + 1}}}")
-LONG = f"it has a tag or a text of more than {MOST_TEXT} characters"
-BEGINNINGS = {b"\xef\xbb\xbf": "utf-8-sig", b"\xff\xfe": "utf-16", b"\xfe\xff": "utf-16", b"<\0": "utf-16-le", b"\0<": "utf-16-be"}
+FAR = re.compile(f"<[^<]{{{limits.XML_MOST_CHARACTERS + 1}}}")
+LONG = f"it has a tag or a text of more than {limits.XML_MOST_CHARACTERS} characters"
+BEGINNINGS = {b"\xef\xbb\xbf": "utf-8-sig", b"\xff\xfe": "utf-16", b"\xfe\xff": "utf-16", b"<\0": "utf-16-le",
+              b"\0<": "utf-16-be"}
 DECLARED = re.compile(rb"<\?xml\s[^>]{0,200}?\sencoding\s*=\s*[\"']([A-Za-z0-9._-]{1,40})[\"']")
 ENCODINGS = ("utf-8", "us-ascii", "iso-8859-1")  # that a body may declare; one in UTF-16 is known by how it begins
 CONVERTER = "from_iso20022"
 RECALL = "camt.056"
 BAD_NAME = 73  # the number of a refusal: a text is no bank, or no identification
 
-conversions = asyncio.Semaphore(2)
 Messages = Callable[[str, str], Awaitable[bytes]]  # looks up the messages on a transfer, by bank and identification
 
 
-# a message, or a transaction that was cut out of one: its place in the body, its line or None, and why it has none or what the line lacks
+# a message, or a transaction that was cut out of one: its place in the body, its line or None, and why it has none or
+# what the line lacks
 class Item(NamedTuple):
     place: str
     line: Any
     why: str | None
 
 
-async def lines_of(body: bytes, messages: Messages) -> list[Item]:
-    """An item for each message of a body, or for each transaction if it is cut into several lines. BadText if the body cannot be read.
+async def lines_of(drafts: list[Item], messages: Messages) -> list[Item]:
+    """The items of drafts, of which each line has the recall that it is about.
 
-    `messages` is asked for the text of the messages on a transfer. It raises Refused if the bank or the identification is none.
+    `messages` is asked for the text of the messages on a transfer. It raises Refused if the bank or the identification
+    is none.
     """
-    try:
-        async with conversions:
-            drafts = await asyncio.to_thread(drafts_of, body)
-    except Wrong as fault:
-        raise Unable(str(fault)) from None
     recalls, answers = await looked_up(transfers_of(drafts), messages)
     return await asyncio.to_thread(finished, drafts, recalls, answers)
 
 
-def outcome_line(item: Item, outcome: keeper.Outcome | None) -> str:
+def outcome_line(item: Item, outcome: Outcome | None) -> str:
     """The line that answers an item: what became of its line, or why it has none."""
     if item.line is None or outcome is None:
         answer = {"outcome": "UNREAD", "why": item.why}
     else:
-        answer = json.loads(keeper.outcome_line(0, outcome))
+        answer = json.loads(line_of_outcome(0, outcome))
         del answer["line"]
         answer.update({"note": item.why} if item.why else {})
     return json.dumps({"message": item.place, **answer}, separators=(",", ":")) + "\n"
@@ -88,17 +78,17 @@ class Tree(ElementTree.TreeBuilder):
         raise BadText("it has a document type")
 
     def start_ns(self, prefix: str, space: str) -> None:
-        if len(space) > MOST_SPACE:
-            raise BadText(f"it has a name space of more than {MOST_SPACE} characters")
+        if len(space) > limits.XML_SPACE_CHARACTERS:
+            raise BadText(f"it has a name space of more than {limits.XML_SPACE_CHARACTERS} characters")
 
     def start(self, tag: str, attributes: dict[str, str]) -> ElementTree.Element:
         self.depth += 1
         self.names.add(tag)
         self.names.update(attributes)
-        if self.depth > MOST_DEPTH:
-            raise BadText(f"it has more than {MOST_DEPTH} elements in each other")
-        if len(self.names) > MOST_NAMES:
-            raise BadText(f"it has more than {MOST_NAMES} different names")
+        if self.depth > limits.XML_MOST_DEPTH:
+            raise BadText(f"it has more than {limits.XML_MOST_DEPTH} elements in each other")
+        if len(self.names) > limits.XML_MOST_NAMES:
+            raise BadText(f"it has more than {limits.XML_MOST_NAMES} different names")
         return super().start(tag, attributes)
 
     def end(self, tag: str) -> ElementTree.Element:
@@ -128,18 +118,19 @@ def text_of(body: bytes) -> str:
 
 def tree_of(text: str) -> ElementTree.Element:
     """The root of an XML text, which may cost no more than a body of messages does."""
-    if sum(map(text.count, SIGNS)) > MOST_SIGNS:
-        raise BadText(f"it has more than {MOST_SIGNS} tags, attributes and ends of lines")
+    if sum(map(text.count, SIGNS)) > limits.XML_MOST_SIGNS:
+        raise BadText(f"it has more than {limits.XML_MOST_SIGNS} tags, attributes and ends of lines")
     if FAR.search(text):
         raise BadText(LONG)
     parser = ElementTree.XMLParser(target=Tree())
     try:
-        for place in range(0, len(text), PIECE):  # a piece in which something is refused is read to its end
-            parser.feed(text[place:place + PIECE])
+        # a piece in which something is refused is read to its end
+        for place in range(0, len(text), limits.XML_PIECE_CHARACTERS):
+            parser.feed(text[place:place + limits.XML_PIECE_CHARACTERS])
         root = parser.close()
     except ElementTree.ParseError as why:
         raise BadText(f"it is no XML: {shortened(str(why))}") from None
-    if any(len(part.text or "") > MOST_TEXT for part in root.iter()):
+    if any(len(part.text or "") > limits.XML_MOST_CHARACTERS for part in root.iter()):
         raise BadText(LONG)
     return root
 
@@ -147,7 +138,8 @@ def tree_of(text: str) -> ElementTree.Element:
 # ---- lines
 
 def drafts_of(body: bytes) -> list[Item]:
-    """The items of a body before recalls are looked up: the line of each is one of the converter."""
+    """An item for each message of a body, or for each transaction if it is cut into several lines, before recalls are
+    looked up: the line of each is one of the converter. BadText if the body cannot be read."""
     desk, drafts = desk_module(CONVERTER), []
     for place, message in enumerate(messages_of(desk, tree_of(text_of(body))), 1):
         drafts += items_of(desk, f"message {place}", message)
@@ -156,7 +148,8 @@ def drafts_of(body: bytes) -> list[Item]:
 
 
 def messages_of(desk: types.ModuleType, root: ElementTree.Element) -> list[Any]:
-    """The messages below a root, each as the converter reads it, or the reason why it reads none. BadText if they are too many."""
+    """The messages below a root, each as the converter reads it, or the reason why it reads none. BadText if they are
+    too many."""
     try:
         _, ones = desk.messages_in(root)
     except desk.Wrong as why:
@@ -165,14 +158,14 @@ def messages_of(desk: types.ModuleType, root: ElementTree.Element) -> list[Any]:
     messages = [unless_wrong(desk, desk.Message, element) for element in ones]
     read = [message for message in messages if isinstance(message, desk.Message)]
     must_be_few(sum(len(message.transactions) for message in read), "transactions")
-    if sum(map(looks, read)) > MOST_BESIDE:
+    if sum(map(looks, read)) > limits.XML_MOST_BESIDE:
         raise BadText("its messages have too many elements beside their transactions")
     return messages
 
 
 def must_be_few(many: int, what: str) -> None:
-    if many > MOST:
-        raise BadText(f"it has {many} {what}, and a body has at most {MOST}")
+    if many > limits.XML_MOST_MESSAGES:
+        raise BadText(f"it has {many} {what}, and a body has at most {limits.XML_MOST_MESSAGES}")
 
 
 def looks(message: Any) -> int:
@@ -193,7 +186,7 @@ def unless_wrong(desk: types.ModuleType, call: Callable[..., Any], *words: Any) 
 
 
 def shortened(text: str) -> str:
-    return text if len(text) <= MOST_WHY else text[:MOST_WHY] + ".."
+    return text if len(text) <= limits.XML_WHY_CHARACTERS else text[:limits.XML_WHY_CHARACTERS] + ".."
 
 
 def items_of(desk: types.ModuleType, place: str, message: Any) -> list[Item]:
@@ -204,7 +197,8 @@ def items_of(desk: types.ModuleType, place: str, message: Any) -> list[Item]:
     notes = [message.notes.get(transaction) for transaction in message.transactions]
     if len(lines) == 1:
         return [Item(place, lines[0], notes[0])]
-    return [Item(f"{place}, transaction {number}", line, note) for number, (line, note) in enumerate(zip(lines, notes), 1)]
+    return [Item(f"{place}, transaction {number}", line, note)
+            for number, (line, note) in enumerate(zip(lines, notes), 1)]
 
 
 def with_bank(desk: types.ModuleType, draft: Item, banks: dict[tuple[str, str | None], set[str | None]]) -> Item:
@@ -222,8 +216,8 @@ def finished(drafts: list[Item], recalls: list[Any], answers: dict[Any, Any]) ->
             notes = filter(None, [draft.why, without_recall(desk, draft.line, known, answers)])
             draft = Item(draft.place, desk.json_line(draft.line), shortened("; ".join(notes)) or None)
             size += len(draft.line)
-        if size > MOST_LINES:
-            raise BadText(f"its lines have more than {MOST_LINES} bytes")
+        if size > limits.XML_LINES_MOST_BYTES:
+            raise BadText(f"its lines have more than {limits.XML_LINES_MOST_BYTES} bytes")
         items.append(draft)
     return items
 
@@ -260,8 +254,8 @@ async def looked_up(transfers: list[tuple[str, str]], messages: Messages) -> tup
     """The recalls of some transfers as lines of the converter, and the recall of each answer that the site holds."""
     recalls: list[Any] = []
     answers: dict[Any, Any] = {}
-    for place in range(0, len(transfers), AT_ONCE):
-        some = transfers[place:place + AT_ONCE]
+    for place in range(0, len(transfers), limits.XML_LOOKED_UP_AT_ONCE):
+        some = transfers[place:place + limits.XML_LOOKED_UP_AT_ONCE]
         texts = await asyncio.gather(*(held_on(messages, *transfer) for transfer in some))
         await asyncio.to_thread(learn_all, zip(some, texts), recalls, answers)
     return recalls, answers

@@ -1,11 +1,13 @@
-"""main.py: the sites of a hub as services over HTTP, each on the proved process `sct_sites serve` with a journal in a file.
+"""main.py: the sites of a hub as services over HTTP, each on the proved process `sct_sites serve` with a journal in a
+file.
 
-`main.py FOLDER` starts three sites on ports of this machine, each as a process of its own, and starts one again that ends. With --site it is
-one site. `main.py --config FILE` starts the site or the sites of a file, with TLS and roles. SIGHUP has a running hub read the file again.
-docs/users/hub.md has more.
+`main.py FOLDER` starts three sites on ports of this machine, each as a process of its own, and starts one again that
+ends. With --site it is one site. `main.py --config FILE` starts the site or the sites of a file, with TLS and roles.
+SIGHUP has a running hub read the file again. docs/users/hub.md has more.
 
-Other words make one site do something and end: they need --site if the file has several sites. The program is the one that --program names,
-or the variable SCT_SITES, or the one that the gate leaves in this clone, or that of the release, or the one on the search path.
+Other words make one site do something and end: they need --site if the file has several sites. The program is the one
+that --program names, or the variable SCT_SITES, or the one that the gate leaves in this clone, or that of the release,
+or the one on the search path.
 
 The exit status is 2 if a site must not start, and 3 if its disk fails or its port is in use. Standard error says why.
 """
@@ -13,6 +15,7 @@ from __future__ import annotations
 import argparse
 import getpass
 import hashlib
+import logging
 import os
 import pathlib
 import pwd
@@ -20,27 +23,32 @@ import re
 import resource
 import secrets
 import shutil
+import signal
 import subprocess
 import sys
 from typing import NoReturn
 from importlib.util import find_spec
 
+hung_up: list[int] = []  # SIGHUP that came before a site can read its files again
+before_hangups = signal.signal(signal.SIGHUP, lambda number, _: hung_up.append(number))
 HERE = pathlib.Path(__file__).resolve()
 TOP = HERE.parents[2]
 sys.path.insert(0, str(HERE.parents[1]))
 if sys.version_info < (3, 11):
     sys.exit("hub: this needs Python 3.11 or later, as Debian 12 has it")
 if find_spec("aiohttp") is None:
-    print(f"hub: {sys.executable} has no aiohttp. Debian's package python3-aiohttp belongs to /usr/bin/python3: start this program with it",
-          file=sys.stderr)
+    print(f"hub: {sys.executable} has no aiohttp. Debian's package python3-aiohttp belongs to "
+          "/usr/bin/python3: start this program with it", file=sys.stderr)
     sys.exit(2)
-from hub import config, logs, over, record, roll, running, words
-from hub.files import Files, Wrong
-from hub.keeper import Held
+from hub import chain, config, limits, logs, over, roll, running, words
+from hub.files import Files, Held, Wrong
+from hub.places import of_release
 from hub.several import Several
 
 WRONG, AWAY = running.WRONG, running.AWAY
-ACTS = ("print", "check", "read_over", "clear_halt", "backup", "verify", "restore", "adopt", "roll", "audit")  # words after which it ends
+# words after which it ends
+ACTS = ("print", "check", "read_over", "clear_halt", "clear_fork", "backup", "verify", "restore", "adopt", "roll",
+        "audit")
 
 
 def peer(text: str) -> tuple[int, str]:
@@ -61,41 +69,70 @@ def numbers(text: str) -> list[int]:
 
 
 def options(arguments: list[str]) -> argparse.Namespace:
-    parser = argparse.ArgumentParser(prog="main.py", description=__doc__, formatter_class=argparse.RawDescriptionHelpFormatter)
+    parser = argparse.ArgumentParser(prog="main.py", description=__doc__,
+                                     formatter_class=argparse.RawDescriptionHelpFormatter)
     parser.add_argument("folder", metavar="FOLDER", nargs="?", help="where the journals are, as siteN.journal")
-    parser.add_argument("--config", metavar="FILE", help="a file in TOML with all that is said of the site or the sites")
-    parser.add_argument("--sites", metavar="N", type=numbers, default=[1, 2, 3], help="start sites 1 to N on this machine (3), or those of a list 1,2,4")
+    parser.add_argument("--config", metavar="FILE",
+                        help="a file in TOML with all that is said of the site or the sites")
+    parser.add_argument("--sites", metavar="N", type=numbers, default=[1, 2, 3],
+                        help="start sites 1 to N on this machine (3), or those of a list 1,2,4")
     parser.add_argument("--site", metavar="N", type=int, help="be site N alone")
-    parser.add_argument("--only", metavar="N", type=int, help="of the sites that would be started, be site N: the hub starts its sites so")
-    parser.add_argument("--group", metavar="N", type=int, default=64, help="the greatest number that a site may ever have (64)")
+    parser.add_argument("--only", metavar="N", type=int,
+                        help="of the sites that would be started, be site N: the hub starts its sites so")
+    parser.add_argument("--group", metavar="N", type=int, default=64,
+                        help="the greatest number that a site may ever have (64)")
     parser.add_argument("--program", metavar="PATH", help="the program sct_sites")
-    parser.add_argument("--host", metavar="ADDRESS", default="127.0.0.1", help="the address to serve at: one of this machine alone (127.0.0.1)")
-    parser.add_argument("--port", metavar="PORT", type=int, default=config.FIRST_PORT, help=f"the port of site 1, or of the one site ({config.FIRST_PORT})")
-    parser.add_argument("--name", metavar="HOST", action="append", default=[], help="a name of this site in requests; as often as needed")
-    parser.add_argument("--peer", metavar="N=URL", type=peer, action="append", default=[], help="a peer, for --site; as often as needed")
-    parser.add_argument("--through", metavar="N=PEER", type=peer, action="append", default=[], help="take entries of site N from this peer")
-    parser.add_argument("--hear", metavar="N", type=int, help="take no message before N peers were heard (1 if there are peers)")
-    parser.add_argument("--silence", metavar="SECONDS", type=float, default=10, help="give up a peer after so long without a byte (10)")
-    parser.add_argument("--mirror", metavar="FILE", help="the database of mirror.py, by which transfers are found; {site} is the number of the site")
-    parser.add_argument("--connections", metavar="N", type=int, default=config.MOST_CONNECTIONS, help="connections at most (2,000)")
-    parser.add_argument("--seconds", metavar="N", type=float, default=config.SECONDS, help="seconds for a request to come and an answer to go (30)")
+    parser.add_argument("--host", metavar="ADDRESS", default="127.0.0.1",
+                        help="the address to serve at: one of this machine alone (127.0.0.1)")
+    parser.add_argument("--port", metavar="PORT", type=int, default=config.FIRST_PORT,
+                        help=f"the port of site 1, or of the one site ({config.FIRST_PORT})")
+    parser.add_argument("--name", metavar="HOST", action="append", default=[],
+                        help="a name of this site in requests; as often as needed")
+    parser.add_argument("--peer", metavar="N=URL", type=peer, action="append", default=[],
+                        help="a peer, for --site; as often as needed")
+    parser.add_argument("--through", metavar="N=PEER", type=peer, action="append", default=[],
+                        help="take entries of site N from this peer")
+    parser.add_argument("--hear", metavar="N", type=int,
+                        help="take no message before N peers were heard (1 if there are peers)")
+    parser.add_argument("--acknowledge", metavar="N", type=int, default=0,
+                        help="answer a post after N peers hold it, too (0)")
+    parser.add_argument("--silence", metavar="SECONDS", type=float, default=10,
+                        help="give up a peer after so long without a byte (10)")
+    parser.add_argument(
+        "--mirror", metavar="FILE",
+        help="the database of mirror.py, by which transfers are found; {site} is the number of the site")
+    parser.add_argument("--connections", metavar="N", type=int, default=limits.CONNECTIONS_MOST,
+                        help="connections at most (2,000)")
+    parser.add_argument("--seconds", metavar="N", type=float, default=limits.ANSWER_SECONDS,
+                        help="seconds for a request to come and an answer to go (30)")
     add_acts(parser)
     return parser.parse_args(arguments)
 
 
 def add_acts(parser: argparse.ArgumentParser) -> None:
     """The words after which it ends."""
-    parser.add_argument("--print", action="store_true", help="print the messages of the journal; the site may run meanwhile")
-    parser.add_argument("--check", action="store_true", help="print what the program refuses of the journal, such as before an upgrade")
-    parser.add_argument("--backup", metavar="FILE", help="copy the journal, while the site runs or not, and try the copy")
-    parser.add_argument("--verify", metavar="FILE", help="try a copy of the journal without serving it")
-    parser.add_argument("--restore", metavar="FILE", help="put a copy in the place of a journal that is not there any more")
-    parser.add_argument("--adopt", metavar="JOURNAL", help="take all messages of the journal of a retired number, after the peers were heard")
-    parser.add_argument("--roll", metavar=("DAY", "JOURNAL"), nargs=2, help="close the site, and have a new site begin with what is kept")
+    parser.add_argument("--print", action="store_true",
+                        help="print the messages of the journal; the site may run meanwhile")
+    parser.add_argument("--check", action="store_true",
+                        help="print what the program refuses of the journal, such as before an upgrade")
+    parser.add_argument("--backup", metavar="FILE",
+                        help="copy journal, record and what waits, while the site runs or not, and try the copy")
+    parser.add_argument("--verify", metavar="FILE",
+                        help="try a copy without serving it, and compare its files with its manifest")
+    parser.add_argument("--restore", metavar="FILE",
+                        help="put a copy in the place of a journal, and of a record, that are not there any more")
+    parser.add_argument("--adopt", metavar="JOURNAL",
+                        help="take all messages of the journal of a retired number, after the peers were heard")
+    parser.add_argument("--roll", metavar=("DAY", "JOURNAL"), nargs=2,
+                        help="close the site, and have a new site begin with what is kept")
     parser.add_argument("--clear-halt", action="store_true", help="let the site take messages again after a halt")
-    parser.add_argument("--audit", action="store_true", help="check the record of the site, alone and with its journal")
+    parser.add_argument("--clear-fork", metavar="ORIGIN", type=int,
+                        help="let the site accept entries of a site again that had other entries elsewhere")
+    parser.add_argument("--audit", action="store_true",
+                        help="check the record of the site, alone, with its journal, and with what that holds")
     parser.add_argument("--since", metavar="NUMBER:SUM", help="for --audit: a row of the record that was seen before")
-    parser.add_argument("--read-over", metavar="OLD.db", help="make the journal of an SQLite journal of an older version")
+    parser.add_argument("--read-over", metavar="OLD.db",
+                        help="make the journal of an SQLite journal of an older version")
     parser.add_argument("--new-token", action="store_true", help="print a new token, and its sum for the file of roles")
 
 
@@ -114,10 +151,8 @@ def program_of(given: str | None) -> str:
         if path is None:
             stop(f"there is no program {named}")
         return os.path.abspath(path)
-    for built in (TOP / "crates" / "sct_sites" / "out" / "sct_sites", HERE.parent / "../../../../bin/sct_sites"):  # a clone, a release
-        if built.is_file():
-            return str(built.resolve())
-    path = shutil.which("sct_sites")
+    built = TOP / "crates" / "sct_sites" / "out" / "sct_sites"  # of a clone
+    path = str(built) if built.is_file() else str(of_release() or "") or shutil.which("sct_sites")
     if path is None:
         stop("there is no program sct_sites: name it by --program or by the variable SCT_SITES")
     return path
@@ -126,8 +161,12 @@ def program_of(given: str | None) -> str:
 def version_of(program: str) -> str:
     """The version that the program says."""
     try:
-        said = subprocess.run([program, "--version"], stdin=subprocess.DEVNULL, stdout=subprocess.PIPE, stderr=subprocess.DEVNULL, timeout=20)
-    except (OSError, subprocess.TimeoutExpired) as fault:
+        said = subprocess.run([program, "--version"], stdin=subprocess.DEVNULL,
+                              stdout=subprocess.PIPE, stderr=subprocess.DEVNULL,
+                              timeout=limits.VERSION_SECONDS)
+    except subprocess.TimeoutExpired as fault:
+        stop(f"{program} does not say its version: {fault}", AWAY)
+    except OSError as fault:
         stop(f"{program} does not say its version: {fault}")
     match = re.search(rb"\d+\.\d+\.\d+", said.stdout)
     if not match:
@@ -150,7 +189,9 @@ def of_words(args: argparse.Namespace) -> dict[int, config.Settings]:
         if args.site and len(peers) < len(args.peer):
             raise Wrong("a peer has a number that is that of no other peer")
         made[number] = config.checked(config.Settings(
-            folder=args.folder, site=number, group=args.group, host=args.host, names=tuple(args.name), hear=args.hear, silence=args.silence,
+            folder=args.folder, site=number, group=args.group, host=args.host, names=tuple(args.name),
+            hear=args.hear, silence=args.silence,
+            acknowledge=args.acknowledge,
             port=args.port if args.site else args.port + number - 1, connections=args.connections, seconds=args.seconds,
             program=args.program, mirror=args.mirror and args.mirror.replace("{site}", str(number)), peers=peers,
             through={origin: through_of(text) for origin, text in args.through}))
@@ -187,13 +228,17 @@ def one_site(args: argparse.Namespace, settings: config.Settings) -> int:
     except OSError as fault:
         stop(f"{fault.strerror}: {fault.filename}", AWAY)
     if files.old.exists() and not files.journal.exists():
-        stop(f"site {settings.site} cannot start: {files.old} is a journal of an older version: --read-over reads it over")
-    return running.run(settings, program, version_of(program), lambda: settings_of(args)[settings.site])
+        stop(f"site {settings.site} cannot start: {files.old} is a journal of an older version: --read-over "
+             "reads it over")
+    version = version_of(program)
+    logging.getLogger("hub").info("the program is %s, version %s", program, version)
+    return running.run(settings, program, version, lambda: settings_of(args)[settings.site], lambda: bool(hung_up))
 
 
 def wanted(arguments: list[str]) -> dict[int, list[str]]:
     """The sites that shall run, each with the words that start it."""
-    return {number: [sys.executable, "-u", __file__, *arguments, "--only", str(number)] for number in settings_of(options(arguments))}
+    return {number: [sys.executable, "-u", __file__, *arguments, "--only", str(number)]
+            for number in settings_of(options(arguments))}
 
 
 # ---- words after which it ends
@@ -202,6 +247,9 @@ def act(args: argparse.Namespace, settings: config.Settings) -> int:
     """Does what a word asks for, and ends. The exit status."""
     files, program = Files(settings.folder, settings.site, settings.group), program_of(settings.program)
     files.make_folder()
+    if args.adopt or args.clear_halt or args.clear_fork or args.read_over or args.restore:
+        with files.alone():
+            return act_alone(args, settings, files, program)
     noted = Acts(files)
     if args.print:
         for line in files.own_lines():
@@ -209,23 +257,33 @@ def act(args: argparse.Namespace, settings: config.Settings) -> int:
         sys.stdout.buffer.flush()
         return 0
     if args.audit:
-        report, is_right = record.audited(files.record, files.site, files.group, files.own_lines, args.since)
-        text, status = "\n".join(report), 0 if is_right else 1
-    elif args.adopt:
-        return running.adopt(settings, program, version_of(program), args.adopt, noted)
+        if not files.record.exists():
+            raise Wrong(f"there is no record {files.record}: compare the folder and the number of the site")
+        text, status = words.audited(files, program, args.since)
     elif args.roll:
         day, journal = args.roll
         text, status = roll.roll(files, program, day, journal, noted)
-    elif args.clear_halt:
-        text, status = words.clear_halt(files, noted)
-    elif args.read_over:
-        text, status = over.read_over(args.read_over, files, program), 0
     elif args.check:
         text, status = words.check(files, program)
     elif args.backup:
         text, status = words.backup(files, program, args.backup, noted)
-    elif args.verify:
+    else:
         text, status = words.verify(files, program, args.verify)
+    print(text)
+    return status
+
+
+def act_alone(args: argparse.Namespace, settings: config.Settings, files: Files, program: str) -> int:
+    """Does what a word asks for that must not be done while the site runs. The exit status."""
+    noted = Acts(files)
+    if args.adopt:
+        return running.adopt(settings, program, version_of(program), args.adopt, noted)
+    if args.clear_halt:
+        text, status = words.clear_halt(files, noted)
+    elif args.clear_fork:
+        text, status = words.clear_fork(files, args.clear_fork, noted)
+    elif args.read_over:
+        text, status = over.read_over(args.read_over, files, program), 0
     else:
         text, status = words.restore(files, program, args.restore, noted)
     print(text)
@@ -241,11 +299,12 @@ class Acts:
     def act(self, act: str, what: dict[str, int | str]) -> int:
         """Adds a row. Its number, by which a later row names it."""
         its = self.files
-        return record.act_once(its.record, its.site, its.group, act, operator(), what, its.own_lines)
+        return chain.act_once(its.record, its.site, its.group, act, operator(), what, its.own_lines)
 
 
 def operator() -> str:
-    """The user that runs this, and as whom somebody logged in, if that is another one: sites have a user of their own."""
+    """The user that runs this, and as whom somebody logged in, if that is another one: sites have a user of their
+    own."""
     user = f"user {getpass.getuser()}"
     try:
         login = pwd.getpwuid(int(pathlib.Path("/proc/self/loginuid").read_text())).pw_name
@@ -273,6 +332,7 @@ def main() -> None:
             stop("this is asked of one site, one word at a time: name it by --site")
         number, settings = next(iter(sites.items()))
         if does:
+            signal.signal(signal.SIGHUP, before_hangups)
             sys.exit(act(args, settings))
         if len(sites) == 1 and (args.site or args.only or args.config):
             sys.exit(one_site(args, settings))

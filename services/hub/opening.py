@@ -6,9 +6,9 @@ import logging
 import re
 import time
 from typing import Callable, Iterator
+from . import limits
 from .notify import notify
 
-FIRST, EVERY = 5.0, 10.0  # seconds until the first line, and from one to the next
 MEGA = 1_000_000
 
 log = logging.getLogger("hub")
@@ -51,8 +51,8 @@ def saying(text: Callable[[], str]) -> Iterator[None]:
 
 
 async def _says(text: Callable[[], str]) -> None:
-    await asyncio.sleep(FIRST)
+    await asyncio.sleep(limits.OPENING_FIRST_SECONDS)
     while True:
         log.info("%s", text())
         notify(f"STATUS={text()}")
-        await asyncio.sleep(EVERY)
+        await asyncio.sleep(limits.OPENING_EVERY_SECONDS)

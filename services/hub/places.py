@@ -1,7 +1,9 @@
-"""places.py: where the parts are that a site uses beside its program: the Python package of the library, and the tools of the desk.
+"""places.py: where the parts are that a site uses beside its program: the Python package of the library, and the tools
+of the desk.
 
-A clone and a release have both in folders of their own. In Debian the package is installed for every program. In a release and in Debian the
-tools of the desk are beside the services. Such a folder is among those that Python looks in only while a module of it is loaded.
+A clone and a release have both in folders of their own. In Debian the package is installed for every program. In a
+release and in Debian the tools of the desk are beside the services. Such a folder is among those that Python looks in
+only while a module of it is loaded.
 """
 from __future__ import annotations
 import functools
@@ -16,12 +18,19 @@ TOP = pathlib.Path(__file__).resolve().parents[2]  # a clone, or share/niluppang
 PACKAGE = "niluppang"
 PACKAGES = [TOP / "bindings" / "python", TOP / "python"]  # of a clone, of a release
 DESKS = [TOP / "tools" / "desk", TOP / "desk"]  # of a clone, of a release or of Debian
-NO_PACKAGE = ("there is no Python package niluppang, which reads lines as the program does: Debian's package python3-niluppang has it, a"
-              " clone has it in bindings/python, and a release in share/niluppang/python")
-NO_TOOL = ("there is no {}.py of the desk: Debian's package niluppang has it in /usr/share/niluppang/desk, a clone has it in tools/desk,"
-           " and a release in share/niluppang/desk")
+NO_PACKAGE = ("there is no Python package niluppang, which reads lines as the program does: Debian's package "
+              "python3-niluppang has it, a clone has it in bindings/python, and a release in share/niluppang/python")
+NO_TOOL = ("there is no {}.py of the desk: Debian's package niluppang has it in /usr/share/niluppang/desk, a "
+           "clone has it in tools/desk, and a release in share/niluppang/desk")
 
 one_at_a_time = threading.Lock()
+
+
+def of_release(top: pathlib.Path = TOP) -> pathlib.Path | None:
+    """The program of a release, if these services are those of one: bin/ is beside share/niluppang/. In a clone it is
+    None."""
+    program = top.parents[1] / "bin" / "sct_sites"
+    return program if (top.parent.name, top.name) == ("share", PACKAGE) and program.is_file() else None
 
 
 def loaded(name: str, folder: pathlib.Path | None = None) -> types.ModuleType:

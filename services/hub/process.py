@@ -1,24 +1,27 @@
 """process.py: the process `sct_sites serve` of a site: requests go in, and replies come back in their order.
 
-The process keeps the journal. What has a reply is on the disk. What has none is unknown when the process ends, and may be sent again.
+The process keeps the journal. What has a reply is on the disk. What has none is unknown when the process ends, and may
+be sent again.
 """
 from __future__ import annotations
 import asyncio
 import contextlib
 import ctypes
+import os
 import re
 import signal
 import subprocess
+import time
 from typing import Callable, NamedTuple
+from . import limits
+from .files import Wrong
 
-MOST_LINE = 4 << 20  # bytes of a line of a reply: the vector of a group, or a refusal with the key of a line
-PIECE = 1 << 20
-SECONDS = 20  # for the process to end after its input ended
 WRONG_JOURNAL, OTHER_SITE, HELD, DISK = 75, 76, 77, 78
 MEMORY_STATUS, MEMORY = 3, 65
 
 
-# a reply: its word, the rest of its line, and the text that follows it or None; `is_cut` says that the text is only a beginning
+# a reply: its word, the rest of its line, and the text that follows it or None; `is_cut` says that the text is only a
+# beginning
 class Reply(NamedTuple):
     word: bytes
     rest: bytes
@@ -39,28 +42,69 @@ def ends_with_parent() -> None:
     ctypes.CDLL(None).prctl(1, signal.SIGTERM)
 
 
-def pipes_of(child: asyncio.subprocess.Process) -> tuple[asyncio.StreamWriter, asyncio.StreamReader, asyncio.StreamReader]:
-    """The pipes of a process that was started with three: to its input, from its output, and from its standard error."""
+def pipes_of(child: asyncio.subprocess.Process) -> tuple[asyncio.StreamWriter, asyncio.StreamReader,
+                                                         asyncio.StreamReader]:
+    """The pipes of a process that was started with three: to its input, from its output, and from its standard
+    error."""
     if child.stdin is None or child.stdout is None or child.stderr is None:
         raise ValueError("a pipe of the process lacks")
     return child.stdin, child.stdout, child.stderr
 
 
+class Program:
+    """A program as it was when a site began: what takes its place on the disk later is not started before the site
+    itself is started again."""
+
+    def __init__(self, path: str) -> None:
+        self.path = path
+        try:
+            self.file = os.open(path, os.O_RDONLY)
+        except OSError as fault:
+            raise Wrong(f"{path} cannot be started: {fault.strerror}") from None
+        self.mark = self._mark()
+
+    def _mark(self) -> tuple[int, int]:
+        its = os.fstat(self.file)
+        return its.st_size, its.st_mtime_ns
+
+    def place(self) -> str:
+        """The path by which the program is started: its own, or that of the open file if another one has its own. Wrong
+        if its bytes changed."""
+        if self._mark() != self.mark:
+            raise Wrong(f"{self.path} was written over: look at it, and start the site again")
+        with contextlib.suppress(OSError):
+            if os.path.samestat(os.stat(self.path), os.fstat(self.file)):
+                return self.path
+        return f"/proc/self/fd/{self.file}"
+
+
 class Process:
     """The process of a site. `vector` is what it held when it was ready."""
+    since: float | None  # since when it owes a reply and says nothing
+
     def __init__(self, child: asyncio.subprocess.Process) -> None:
-        self.child, self.said, self.vector = child, b"", b""
+        self.child, self.said, self.vector, self.since = child, b"", b"", None
+        self.size = 0  # bytes of the requests under way
         self.requests, self.replies, self.errors = pipes_of(child)
         self.listening = asyncio.ensure_future(self._listen())
         self.closing = asyncio.ensure_future(self._closed())
 
     @classmethod
-    async def started(cls, words: list[str], began: Callable[[int], object] = lambda process: None) -> Process:
-        """The process of a command line, which is ready. Ended if it does not become ready. `began` is called with its number before."""
-        # signals stay as Python has them: a file that may not grow is then a write that fails, and does not end the process
-        process = cls(await asyncio.create_subprocess_exec(
-            *words, stdin=subprocess.PIPE, stdout=subprocess.PIPE, stderr=subprocess.PIPE, limit=MOST_LINE, preexec_fn=ends_with_parent,
-            restore_signals=False))
+    async def started(cls, words: list[str], began: Callable[[int], object] = lambda process: None,
+                      files: tuple[int, ...] = ()) -> Process:
+        """The process of a command line, which is ready, and has some open files of this one. Ended if it does not
+        become ready, and OSError if the system starts none. `began` is called with its number before."""
+        try:
+            # signals stay as Python has them: a file that may not grow is then a write that fails, and does not end the
+            # process
+            child = await asyncio.create_subprocess_exec(
+                *words, stdin=subprocess.PIPE, stdout=subprocess.PIPE, stderr=subprocess.PIPE,
+                limit=limits.REPLY_MOST_BYTES, preexec_fn=ends_with_parent,
+                restore_signals=False, pass_fds=files)
+        # of a thread that the system does not start, and of `preexec_fn`
+        except (RuntimeError, subprocess.SubprocessError) as fault:
+            raise OSError(str(fault)) from None
+        process = cls(child)
         began(process.child.pid)
         try:
             ready = await process._line()
@@ -75,14 +119,14 @@ class Process:
     async def _listen(self) -> None:
         """Keeps the last that the process writes to standard error."""
         while True:
-            piece = await self.errors.read(PIECE)
+            piece = await self.errors.read(limits.PIPE_PIECE_BYTES)
             if not piece:
                 return
             self.said = (self.said + piece)[-2000:]
 
     async def _closed(self) -> None:
-        """Waits until the input of the process is closed. A process that is killed with bytes on their way closes it by an error, which its
-        reply that lacks says better."""
+        """Waits until the input of the process is closed. A process that is killed with bytes on their way closes it by
+        an error, which its reply that lacks says better."""
         with contextlib.suppress(OSError):
             await self.requests.wait_closed()
 
@@ -92,7 +136,7 @@ class Process:
             await self.kill()
         else:
             try:
-                await asyncio.wait_for(self.child.wait(), SECONDS)
+                await asyncio.wait_for(self.child.wait(), limits.PROCESS_END_SECONDS)
             except asyncio.TimeoutError:
                 await self.kill()
         await asyncio.wait([self.listening], timeout=1)
@@ -101,9 +145,17 @@ class Process:
         fault = int(faults[-1]) if faults else MEMORY if self.child.returncode == MEMORY_STATUS else None
         return Ended(fault, self.child.returncode, why or " ".join(said.split())[-300:])
 
+    def has_ended(self) -> bool:
+        return self.child.returncode is not None
+
+    def _heard(self) -> None:
+        """It said something."""
+        self.since = time.monotonic()
+
     async def _line(self) -> bytes:
         try:
             line = await self.replies.readuntil(b"\n")
+            self._heard()
         except asyncio.IncompleteReadError:
             raise await self.ended() from None
         except asyncio.LimitOverrunError:
@@ -114,9 +166,10 @@ class Process:
         """A text of a reply, or as much of it as was asked for."""
         text, left = bytearray(), size
         while left:
-            piece = await self.replies.read(min(left, PIECE))
+            piece = await self.replies.read(min(left, limits.PIPE_PIECE_BYTES))
             if not piece:
                 raise await self.ended()
+            self._heard()
             if len(text) < most:
                 text += piece[:most - len(text)]
             left -= len(piece)
@@ -136,11 +189,15 @@ class Process:
 
     async def ask(self, requests: list[tuple[bytes, int]], settle: Callable[[int, Reply], object]) -> None:
         """Sends requests, each with the most bytes of its text that are wanted, and hands each reply on as it comes."""
-        sending = asyncio.ensure_future(self._send(b"".join(request + b"\n" for request, _ in requests)))
+        data = b"".join(request + b"\n" for request, _ in requests)
+        sending = asyncio.ensure_future(self._send(data))
+        self.size = len(data)
+        self._heard()
         try:
             for place, (_, most) in enumerate(requests):
                 settle(place, await self.reply(most))
         finally:
+            self.since = None
             sending.cancel()
             await asyncio.wait([sending])
 
@@ -155,15 +212,17 @@ class Process:
         """Ends the process in peace."""
         self.requests.close()
         try:
-            await asyncio.wait_for(self.child.wait(), SECONDS)
+            await asyncio.wait_for(self.child.wait(), limits.PROCESS_END_SECONDS)
         except asyncio.TimeoutError:
             await self.kill()
         self.listening.cancel()
 
+    def stop(self) -> None:
+        """Ends the process at once. One that waits for a disk ends later."""
+        with contextlib.suppress(ProcessLookupError):
+            self.child.kill()
+
     async def kill(self) -> None:
         if self.child.returncode is None:
-            try:
-                self.child.kill()
-            except ProcessLookupError:
-                pass
+            self.stop()
             await self.child.wait()

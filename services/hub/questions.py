@@ -1,6 +1,7 @@
-"""questions.py: questions to the process of a site, as the bytes of a request. A request is one line: nothing that ends a line gets into it."""
+"""questions.py: questions to the process of a site, as the bytes of a request. A request is one line: nothing that ends
+a line gets into it."""
 from __future__ import annotations
-from .keeper import Refused
+from .faults import Refused
 
 BAD_ARGUMENT = b"73 %d"
 

@@ -1,11 +1,13 @@
 """roll.py: a group is rolled: its sites take no more messages, and a new group begins with what is kept of them.
 
-A mark beside the journal closes a site: it takes nothing any more, and goes on with all else. When all sites of the group are closed and
-hold the same, each writes their vector into its mark. Nothing ever changes at them after that.
+A mark beside the journal closes a site: it takes nothing any more, and goes on with all else. When all sites of the
+group are closed and hold the same, by their digests, each writes their vector and these into its mark. Nothing ever
+changes at them after that.
 
-The word of an operator puts the mark, and waits for the vector. Then it has the program print what is kept. For the site with the least
-number it makes the journal of a new site of that. The other new sites begin without a journal, and get all from that one. What is made gets
-its name when all of it is on the disk, and what is there already is compared. So the word may be repeated after it ended at any moment.
+The word of an operator puts the mark, and waits for the vector. Then it has the program serve a copy of the journal,
+and print what is kept of it. For the site with the least number it makes the journal of a new site of that. The other
+new sites begin without a journal, and get all from that one. What is made gets its name when all of it is on the disk,
+and what is there already is compared. So the word may be repeated after it ended at any moment.
 """
 from __future__ import annotations
 import asyncio
@@ -19,17 +21,18 @@ import tempfile
 import threading
 import time
 from typing import IO, Iterable, Iterator, TYPE_CHECKING, cast
-from . import over, record
-from .files import DELTA, ENTRY, ORIGIN, Files, Wrong
-from .keeper import Busy, Keeper, Refused, Unable
+from . import limits, over, waiting
+from .faults import Busy, Refused, Unable
+from .files import Files, Wrong
+from .keeper import Keeper
+from .starts import DIGESTS
 from .vectors import listed
-from .words import Noted, give, note
+from .words import Noted, give, note, served
 if TYPE_CHECKING:
     from .exchange import Peers
     from .posts import Posts
 
-LOOK = 0.2  # seconds after which a mark is looked at again
-NAME = re.compile(r"site([1-9][0-9]{0,3})\.journal")
+JOURNAL_NAME = re.compile(r"site([1-9][0-9]{0,3})\.journal")
 log = logging.getLogger("hub")
 
 
@@ -44,12 +47,12 @@ class Closing:
 
     async def follow(self) -> None:
         """Looks again and again, until nothing ever changes at the site, and its peers may know it."""
-        while not (self.keeper.is_final and self.files.closing()[1]):
+        while not (self.keeper.marks.is_final and self.files.closing()[1]):
             try:
                 await self._look()
             except (Busy, OSError, Refused, Unable, Wrong) as why:
                 self._say("what is closed is looked at again later: %s", why)
-            await asyncio.sleep(LOOK)
+            await asyncio.sleep(limits.CLOSING_LOOK_SECONDS)
 
     def _say(self, text: str, *words: object) -> None:
         if (text, *map(str, words)) != self.said:
@@ -63,42 +66,34 @@ class Closing:
         await self.keeper.close(day)
         if vector:
             return
-        others = self.peers.others(day, self.keeper.vector)
-        if self.posts.under_way or others:
-            self._say("the site is closed for %s, and awaits that the sites %s are closed and hold %s", day, others, self.keeper.vector)
+        others, held = self.peers.others(day, self.keeper.holding.vector), self.keeper.holding.held()
+        if self.posts.under_way or others or held is None:
+            self._say("the site is closed for %s, and awaits that the sites %s are closed and hold %s", day, others,
+                      self.keeper.holding.vector)
             return
-        self.files.put_closing(day, self.keeper.vector, sorted([self.keeper.number, *(peer.number for peer in self.peers.all)]))
-        log.info("all sites are closed for %s, and hold %s", day, self.keeper.vector)
+        self.files.put_closing(day, self.keeper.holding.vector,
+                               sorted([self.keeper.number, *(peer.number for peer in self.peers.all)]), held)
+        log.info("all sites are closed for %s, and hold %s", day, self.keeper.holding.vector)
 
 
 # ---- what the program keeps
 
-def messages_in(files: Files) -> Iterator[bytes]:
-    """All messages of a journal, some of them perhaps more than once: those that the site took, and those of other sites."""
-    for line in files.kept():
-        if not line.startswith(DELTA):
-            yield line
-            continue
-        for field in line.split(b"\t")[1:-1]:
-            if not field.startswith(ORIGIN):
-                yield field.split(b" ", 3)[3] if field.startswith(ENTRY) else field
-
-
 def kept_of(program: str, day: str, lines: Iterable[bytes]) -> Iterator[bytes]:
-    """The lines that a program keeps of some, as they come. Wrong at their end if it refuses the day or a line."""
+    """The lines that a program keeps of some, which end with line feeds, as they come. Wrong at their end if it refuses
+    the day or a line."""
     faults: list[Exception] = []
 
     def feed() -> None:
         try:
             with requests as stream:
-                for line in lines:
-                    stream.write(line + b"\n")
+                stream.writelines(lines)
         except BrokenPipeError:
             pass  # its status says why it ended
         except Exception as fault:
             faults.append(fault)
     with tempfile.TemporaryFile() as errors:
-        child = subprocess.Popen([program, "keep", "--", day], stdin=subprocess.PIPE, stdout=subprocess.PIPE, stderr=errors)
+        child = subprocess.Popen([program, "keep", "--", day], stdin=subprocess.PIPE, stdout=subprocess.PIPE,
+                                 stderr=errors)
         requests, kept = cast(IO[bytes], child.stdin), cast(IO[bytes], child.stdout)  # they are pipes
         feeding = threading.Thread(target=feed, daemon=True)
         feeding.start()
@@ -135,32 +130,51 @@ class Summed:
 # ---- the word
 
 def roll(old: Files, program: str, day: str, journal: str, noted: Noted) -> tuple[str, int]:
-    """Closes a site, waits until all of its group hold the same, and makes what its new site begins with. The text and the status."""
+    """Closes a site, waits until all of its group hold the same, and makes what its new site begins with. The text and
+    the status."""
     new = new_site(old, journal)
+    must_be_one(old)
     list(kept_of(program, day, []))  # a day that is none closes nothing
     vector, its_sites = closed(old, day, noted)
     counts = listed(vector, old.group)
     if new.site in its_sites or counts[new.site - 1]:
         raise Wrong(f"{new.site} is a number of this group: a new site has a new one")
-    old.check(counts)
-    kept = Summed(kept_of(program, day, messages_in(old)))
-    done = begin(new, program, kept) if old.site == its_sites[0] else summed(kept)
+    with served(old, program) as (_, serve):
+        if serve.vector != vector:
+            raise Wrong(f"{old.journal} has {serve.vector}, and the group ended with {vector}")
+        digests = [line.decode().rstrip("\n") for line in serve.text(DIGESTS)]
+        if ",".join(digests) != (old.closing_digests() or ",".join(digests)):
+            raise Wrong(
+                f"{old.journal} has the digests {','.join(digests)}, and the group ended with {old.closing_digests()}")
+        kept = Summed(kept_of(program, day, serve.text(b"? archive")))
+        done = begin(new, program, kept) if old.site == its_sites[0] else summed(kept)
     many = move_waiting(old, new)
-    summary = {"day": day, "vector": vector, "kept": kept.many, "sha256": kept.sum.hexdigest(), "journal": str(new.journal), "waiting": many}
+    summary = {"day": day, "vector": vector, "digests": digests, "kept": kept.many,
+               "sha256": kept.sum.hexdigest(), "journal": str(new.journal),
+               "waiting": many}
     note(noted, "rolled", summary)
-    return "\n".join([vector, f"kept {kept.many}, sha256 {summary['sha256']}", done, f"lines that wait {many}"]), 0
+    return "\n".join([vector, *digests, f"kept {kept.many}, sha256 {summary['sha256']}", done,
+                      f"lines that wait {many}"]), 0
 
 
 def new_site(old: Files, journal: str) -> Files:
     """The files of the new site, whose journal has a path."""
     path = pathlib.Path(journal).absolute()
-    match = NAME.fullmatch(path.name)
+    match = JOURNAL_NAME.fullmatch(path.name)
     number = int(match.group(1)) if match else 0
     if not 1 <= number <= old.group or number == old.site:
-        raise Wrong(f"{journal} is not named siteN.journal, with a number N up to {old.group} that no site of the group has")
+        raise Wrong(
+            f"{journal} is not named siteN.journal, with a number N up to {old.group} that no site of the group has")
     if not path.parent.is_dir():
         raise Wrong(f"there is no folder {path.parent}")
     return Files(path.parent, number, old.group)
+
+
+def must_be_one(files: Files) -> None:
+    """Wrong if an origin is marked: the sites of the group hold different entries, and would keep different ones."""
+    for why in (why for _, why in files.forks().values()):
+        raise Wrong(f"the sites of the group differ: {why}. Find out which is right, retire the others, and remove the "
+                    "mark by --clear-fork")
 
 
 def closed(files: Files, day: str, noted: Noted) -> tuple[str, list[int]]:
@@ -172,10 +186,11 @@ def closed(files: Files, day: str, noted: Noted) -> tuple[str, list[int]]:
         note(noted, "close", {"day": day})
         files.put_closing(day)
     if not vector:
-        said = f"site {files.site} takes no more messages, and waits until all sites are closed for {day} and hold the same"
+        said = (f"site {files.site} takes no more messages, and waits until all sites are closed for {day} and "
+                "hold the same")
         print(said, file=sys.stderr, flush=True)
     while not vector:
-        time.sleep(LOOK)
+        time.sleep(limits.CLOSING_LOOK_SECONDS)
         _, vector, its_sites = files.closing()
     return vector, its_sites or []
 
@@ -214,9 +229,9 @@ def begin(files: Files, program: str, kept: Iterable[bytes]) -> str:
 def move_waiting(old: Files, new: Files) -> int:
     """Has the lines that wait at a site wait at the new one, too. How many there are."""
     try:
-        rows = record.waiting_in(old.record)
+        rows = waiting.waiting_in(old.record)
         if rows:
-            record.move_waiting(rows, new.record, new.site, new.group, new.own_lines)
+            waiting.move_waiting(rows, new.record, new.site, new.group, new.own_lines)
         return len(rows)
     except (Busy, Unable) as why:
         raise Wrong(f"the lines that wait are not moved: {why}") from None

@@ -1,7 +1,8 @@
-"""running.py: one site: its process, its peers, its record, and its service over HTTP, until a signal comes or it cannot go on.
+"""running.py: one site: its process, its peers, its record, and its service over HTTP, until a signal comes or it
+cannot go on.
 
-SIGHUP has it read its configuration, its roles and its certificates again. What is wrong then is logged, and the site goes on with what it
-had. Folder, number, group and address of a site are read at the start alone.
+SIGHUP has it read its configuration, its roles and its certificates again. What is wrong then is logged, and the site
+goes on with what it had. Folder, number, group and address of a site are read at the start alone.
 """
 from __future__ import annotations
 import asyncio
@@ -15,28 +16,34 @@ import sys
 import aiohttp
 from typing import Callable
 from aiohttp import web
-from . import tls, words
-from .access import Roles, table
+from . import limits, tls, words
+from .access import Roles
+from .addresses import table
 from .config import Settings
 from .connections import Connections
+from .digests import Digest
 from .exchange import BadAnswer, Peers
-from .files import Files, Wrong
-from .guard import BUFFERED, Guard
+from .faults import BadText, Halted, Refused, Unable
+from .files import Files, Held, Wrong
+from .for_monitors import Configured
+from .guard import Guard
 from .iso import CONVERTER
-from .keeper import Busy, Halted, Held, Keeper, Refused, Unable
+from .keeper import Keeper
+from .mirroring import Inner, Mirroring
 from .notify import notify, watchdog_seconds
 from .places import desk_module
+from .parts import Parts
 from .posts import Posts
 from .process import Ended
 from .record import Record
-from .roll import Closing
+from .roll import Closing, move_waiting
 from .senders import Reader
 from .service import Service
-from .vectors import BadText
 
-ENDED, WRONG, AWAY = 1, 2, 3  # exit statuses of a site: it cannot go on, it must not start, its disk or its port is not there
-ACCEPTING = 1.0  # seconds in which a connection that was accepted has its transport
-FIXED = ("folder", "site", "group", "host", "port", "program", "connections")  # of settings: they are read at the start alone
+# exit statuses of a site: it cannot go on, it must not start, its disk or its port is not there
+ENDED, WRONG, AWAY = 1, 2, 3
+# of settings: they are read at the start alone
+FIXED = ("folder", "site", "group", "host", "port", "program", "connections")
 log = logging.getLogger("hub")
 
 
@@ -63,30 +70,33 @@ async def began(settings: Settings, files: Files, program: str) -> Keeper:
     except Held as fault:
         raise Stop(f"site {settings.site} cannot start: its journal, {files.journal}, is in use: {fault}") from None
     except Wrong as fault:
-        if keeper.process:
-            await keeper.process.end()
         raise Stop(f"{cannot}: {fault}") from None
     except (Ended, OSError) as fault:
         raise Stop(f"{cannot}: {fault}", AWAY) from None
 
 
 class Site:
-    """A site that runs. `again` reads its settings anew."""
+    """A site that runs. `again` reads its settings anew, and `is_asked` is whether somebody asked for that before it
+    began."""
     connections: Connections
 
     keeper: Keeper
     record: Record
-    server: asyncio.base_events.Server | None
     socket: socket.socket | None
     alive: asyncio.Task[None] | None
     closing: asyncio.Task[None] | None
+    noted: list[Digest]  # what the record said at the opening
+    noting: asyncio.Task[None] | None
 
-    def __init__(self, settings: Settings, program: str, version: str, again: Callable[[], Settings]) -> None:
-        self.settings, self.program, self.version, self.again = settings, program, version, again
+    def __init__(self, settings: Settings, program: str, version: str, again: Callable[[], Settings],
+                 is_asked: Callable[[], bool]) -> None:
+        self.settings, self.program, self.version, self.again, self.is_asked = (settings, program, version, again,
+                                                                                is_asked)
         self.files = Files(settings.folder, settings.site, settings.group)
         self.roles, self.ends = Roles(settings.roles), asyncio.Event()
-        self.server = self.socket = None
-        self.alive, self.closing, self.reloading, self.is_asked_again = None, None, asyncio.Lock(), False
+        self.socket = None
+        self.alive = self.closing = self.noting = None
+        self.reloading, self.is_asked_again = asyncio.Lock(), False
 
     # ---- its life
 
@@ -96,118 +106,165 @@ class Site:
         for number in (signal.SIGINT, signal.SIGTERM):
             loop.add_signal_handler(number, self.ends.set)
         loop.add_signal_handler(signal.SIGHUP, self._hung_up)
+        self.is_asked_again = self.is_asked()
         table(self.settings.access)  # what is wrong with it, or is missing, is seen at the start
+        valid = tls.valid(self.settings.tls)
         desk_module(CONVERTER)
         reader = Reader(self.version) if self.roles.has_banks() else None
         await self._open()
         self.posts = Posts(self.keeper, self.record, reader, self.settings.waiting)
+        self.posts.copies.be(self.settings)
         self.posts.may_send = lambda name, bank: self.roles.may_send(name, bank)
         self.guard = Guard([self.settings.host, *self.settings.names], self.roles)
-        self.service = Service(self.keeper, self.peers, self.guard, self.record, self.posts, self.version, self.settings.seconds)
-        self.service.allow(table(self.settings.access))
-        self.service.finder.path = self.settings.mirror
-        self.service.before = self.settings.before
+        self.record.clients = self.guard.clients
+        self.parts = Parts(self.keeper, self.peers, self.guard, self.record, self.posts, self.version,
+                           self.settings.seconds)
+        self.service = Service(self.parts)
+        self.service.noting.noted = {one.origin: one for one in self.noted}
+        self.service.front.allow(table(self.settings.access))
+        self._shown(valid)
         runner = web.AppRunner(self.service.application(), access_log=None, auto_decompress=False, lingering_time=1.0)
         await runner.setup()
+        self.mirroring = Mirroring(runner, self._let_in)
         if runner.server is None:
             raise Stop(f"site {self.settings.site} has no server", AWAY)
-        self.connections = Connections(runner.server, self.settings.connections, self.settings.seconds)
-        self.service.connections = self.connections
+        self.connections = Connections(runner.server, self.settings.connections, self.settings.seconds,
+                                       self.guard.clients)
+        self.service.front.listens(self.connections)
         try:
             await self._listen()
+            await self.mirroring.be(self.settings.mirror)
             if self.is_asked_again:
                 await self.reload()
             await self._until_the_end()
         finally:
             await self._end(runner)
-        return WRONG if self.keeper.is_wrong else ENDED if self.keeper.failure else 0
+        if not await self.keeper.marks.has_kept_halt():
+            return AWAY
+        return WRONG if self.keeper.rounds.is_wrong else ENDED if self.keeper.queue.failure else 0
 
     async def _open(self) -> None:
         """Opens the journal and the record, and makes the peers, which are not asked yet."""
         self.keeper = await began(self.settings, self.files, self.program)
-        self.keeper.on_failure = self.ends.set
+        self.keeper.rounds.on_failure, self.keeper.marks.takes = self.ends.set, self.settings.takes
+        self.keeper.marks.on_fork = self._forked
+        self.record = Record(self.files.record, self.settings.site, self.settings.group)
         try:
-            self.record = Record(self.files.record, self.settings.site, self.settings.group)
             await self.record.open(self.files.own_lines)
+            own = self.keeper.holding.counts[self.settings.site - 1]
+            self.keeper.marks.must_have(await self.record.last_taken(), own, "the record")
+            await self._must_hold_what_was_held()
             self.peers = Peers(self.keeper, self.version)
             await self.peers.be(self.settings, self._to_peer)
         except (Wrong, Unable, OSError) as fault:
             await self.keeper.end()
-            raise Stop(f"site {self.settings.site} cannot start: {fault}", AWAY if isinstance(fault, (Unable, OSError)) else WRONG) from None
+            await self.record.close()
+            raise Stop(f"site {self.settings.site} cannot start: {fault}",
+                       AWAY if isinstance(fault, (Unable, OSError)) else WRONG) from None
+
+    def _forked(self, origin: int, first: int, why: str) -> None:
+        self.record.note("fork", "", "", "", {"origin": origin, "first": first, "why": why})
+
+    async def _must_hold_what_was_held(self) -> None:
+        """Wrong if the journal has other entries than the record says. Lost entries of other sites come again."""
+        found, more = await self.record.last_held(self.keeper.holding.counts)
+        for one, its in zip(found, await self.keeper.digests_of(one.digest[:2] for one in found)):
+            if one.digest != its:
+                raise Wrong(
+                    f"its first {its.number} entries of site {its.origin} are not those of {one.at}: the journal was "
+                    "changed. --check says more")
+        self.noted = [one.digest for one in found]
+        count = next((one.digest.number for one in found if one.digest.origin == self.settings.site), 0)
+        number = await self.record.changed_line(self.files.own_lines, count)
+        if number is not None:
+            raise Wrong(
+                f"its message {number} is not the one that was taken under this number: the journal was changed")
+        for one in more:
+            log.warning("the journal has %d entries of site %d, and had %d at %s: it lost lines",
+                        self.keeper.holding.counts[one.digest.origin - 1],
+                        one.digest.origin, one.digest.number, one.at)
 
     async def _until_the_end(self) -> None:
         settings, keeper = self.settings, self.keeper
-        log.info("site %d of %d serves at %s:%d, and holds %s", settings.site, settings.group, settings.host, settings.port, keeper.vector)
+        log.info("site %d of %d serves at %s:%d, and holds %s", settings.site, settings.group, settings.host,
+                 settings.port, keeper.holding.vector)
         self.alive = asyncio.ensure_future(self._lives())
+        self.noting = asyncio.ensure_future(self._notes_all())
+        await self.posts.begin()
         await self.peers.hear(lambda: least_of(self.settings, 1), self.ends.is_set)
         self.peers.follow()
-        await self.posts.begin()
+        self.posts.open()
         self.closing = asyncio.ensure_future(Closing(self.files, self.keeper, self.posts, self.peers).follow())
-        self.service.is_open = True
-        notify("READY=1", "STATUS=takes messages")
+        self.parts.is_open = True
+        notify("READY=1", f"STATUS={'takes messages' if self.settings.takes else 'accepts what others took'}")
         await self.ends.wait()
         notify("STOPPING=1")
 
     async def _end(self, runner: web.AppRunner) -> None:
-        if self.server:
-            self.server.close()
-        for task in filter(None, (self.alive, self.closing)):
+        await self.mirroring.end()
+        self.connections.end()
+        for task in filter(None, (self.alive, self.closing, self.noting)):
             task.cancel()
         await self.peers.end()
         await self.posts.end()
         await runner.cleanup()
+        self.service.banks.converters.end()
         await self.keeper.end()
+        self.service.noting.note()
         await self.record.close()
 
+    async def _notes_all(self) -> None:
+        """Has the record say what is held, now and each hour."""
+        while True:
+            self.service.noting.note(True)
+            await asyncio.sleep(limits.RECORD_END_SECONDS)
+
     async def _lives(self) -> None:
-        """Says to systemd that the site lives, as long as its process answers."""
+        """Says to systemd that the site lives, as long as its process answers, or is started in the time that a start
+        may take."""
         pause = watchdog_seconds()
         while pause:
             await asyncio.sleep(pause / 3)
-            try:
-                await self.keeper.ask(b"? vector")
-                notify("WATCHDOG=1")
-            except (Busy, Refused):
-                pass  # much waits: the next time
-            except Unable as why:
-                notify(f"STATUS={why}")
-                if self.keeper.away:
-                    notify("WATCHDOG=1")  # the process is started again, and the journal of a large site takes its time
+            why = self.keeper.queue.failure or self.keeper.starts.absence()
+            notify(*(["WATCHDOG=1"] if self.keeper.starts.lives() else []), *([f"STATUS={why}"] if why else []))
+
+    def _shown(self, valid: tls.Valid) -> None:
+        """Has monitors and the desk see what the settings say, and how long certificates are valid."""
+        until, self.guard.revoked = valid
+        self.service.desk.finder.path = self.settings.mirror
+        self.service.monitors.configured = Configured(self.settings.before, self.settings.sum, until)
 
     # ---- where it listens
+
+    def _let_in(self, inner: Inner) -> None:
+        """Lets the mirror in at its port."""
+        self.guard.inner = inner
 
     def _to_peer(self, number: int) -> ssl.SSLContext | None:
         return tls.to_peer(self.settings.tls, number, lambda: self.roles) if self.settings.tls else None
 
     async def _listen(self) -> None:
-        """Begins to listen. Connections that are there go on with what they had."""
-        host, port, seconds = self.settings.host, self.settings.port, self.settings.seconds
-        context = tls.to_clients(self.settings.tls) if self.settings.tls else None
+        """Begins to listen. When the site listens already, new connections have the certificates as they are now, and
+        the others go on with what they had."""
+        host, port = self.settings.host, self.settings.port
+        self.connections.context = tls.to_clients(self.settings.tls,
+                                                  self.service.front.refused_handshake) if self.settings.tls else None
+        if self.socket is not None:
+            return
         try:
-            if self.socket is None:
-                family = socket.AF_INET6 if ":" in host else socket.AF_INET
-                self.socket = socket.create_server((host, port), family=family, backlog=512)
-                self.socket.setsockopt(socket.SOL_SOCKET, socket.SO_SNDBUF, BUFFERED)  # each connection has it from here
-            server = await asyncio.get_running_loop().create_server(
-                self.connections, sock=self.socket.dup(), ssl=context, backlog=512, ssl_handshake_timeout=seconds if context else None)
+            family = socket.AF_INET6 if ":" in host else socket.AF_INET
+            self.socket = socket.create_server((host, port), family=family, backlog=512)
+            # each connection has it from here
+            self.socket.setsockopt(socket.SOL_SOCKET, socket.SO_SNDBUF, limits.BUFFERED_BYTES)
         except OSError as fault:
-            raise Stop(f"site {self.settings.site} cannot serve at {host} port {port}: {fault.strerror}", AWAY) from None
-        self.connections.listens(server)
-        before, self.server = self.server, server
-        if before:
-            await self._listens_no_more(before)
-
-    async def _listens_no_more(self, server: asyncio.base_events.Server) -> None:
-        """Ends what listened before. It accepts nothing first, and is closed later: a connection that it just accepted would hang else."""
-        for listener in server.sockets:
-            asyncio.get_running_loop().remove_reader(listener.fileno())
-        await asyncio.sleep(ACCEPTING)
-        server.close()
+            raise Stop(f"site {self.settings.site} cannot serve at {host} port {port}: {fault.strerror}",
+                       AWAY) from None
+        self.connections.listen(self.socket)
 
     def _hung_up(self) -> None:
         """SIGHUP came. While the site still opens its journal, the configuration is read again afterwards."""
         self.is_asked_again = True
-        if self.server:
+        if self.socket:
             asyncio.ensure_future(self.reload())
 
     async def reload(self) -> None:
@@ -223,6 +280,7 @@ class Site:
             roles, addresses = Roles(settings.roles), table(settings.access)
             if settings.tls:
                 tls.to_clients(settings.tls)
+            valid = tls.valid(settings.tls)
             reader = self.posts.reader or (Reader(self.version) if roles.has_banks() else None)
             before, self.settings, self.roles = (self.settings, self.roles), settings, roles
             try:
@@ -231,32 +289,41 @@ class Site:
                 self.settings, self.roles = before
                 raise
         except (Wrong, OSError) as fault:
-            log.error("the configuration is not read again: %s", fault)
+            log.error("the configuration of site %d is not read again: %s; the one before stays", self.settings.site,
+                      fault)
             return
         self.guard.names, self.guard.roles = Guard([settings.host, *settings.names], roles).names, roles
-        self.service.allow(addresses)
-        self.service.finder.path = settings.mirror
-        self.service.before = settings.before
-        self.service.events.end()
-        self.posts.reader, self.posts.seconds = reader, settings.waiting
+        self._shown(valid)
+        self.service.front.allow(addresses)
+        await self.mirroring.be(settings.mirror)
+        self.parts.seconds = self.connections.seconds = settings.seconds
+        self.service.desk.events.end()
+        self.posts.reader, self.posts.ends.most = reader, settings.waiting
+        self.posts.copies.be(settings)
+        self.keeper.marks.takes = settings.takes
         await self._listen()
-        self.record.note("reload", f"user {os.getuid()}", "", "", {"roles": len(roles.all), "peers": sorted(settings.peers)})
-        log.info("the configuration is read again%s", f"; {', '.join(fixed)} are read at a start alone" if fixed else "")
+        self.record.note("reload", f"user {os.getuid()}", "", "",
+                         {"roles": len(roles.all), "peers": sorted(settings.peers)})
+        log.info("the configuration is read again%s",
+                 f"; {', '.join(fixed)} are read at a start alone" if fixed else "")
 
 
 async def adopted(settings: Settings, program: str, version: str, path: str, noted: words.Noted) -> tuple[str, int]:
-    """Takes all of the journal of a retired number, after the peers were heard and what they have was accepted. The text and the status."""
+    """Takes all of the journal of a retired number, after the peers were heard and what they have was accepted, and
+    what waits in the record beside it. The text and the status."""
+    words.journal_at(path)  # what is no journal is refused before the site has files of its own
     files, roles = Files(settings.folder, settings.site, settings.group), Roles(settings.roles)
     keeper = await began(settings, files, program)
     peers = Peers(keeper, version)
     try:
-        keeper.must_take()
-        await peers.be(settings, lambda number: tls.to_peer(settings.tls, number, lambda: roles) if settings.tls else None)
-        await peers.hear(lambda: least_of(settings, len(settings.peers)), lambda: keeper.failure)
+        keeper.marks.must_take()
+        await peers.be(settings, lambda number: tls.to_peer(settings.tls, number, lambda: roles) if settings.tls
+                       else None)
+        await peers.hear(lambda: least_of(settings, len(settings.peers)), lambda: keeper.queue.failure)
         for peer in peers.all:
-            while peer.heard_at is not None and await peer.once():
-                pass
-        return await words.adopt(keeper, path, noted)
+            await peer.catch_up()
+        text, status = await words.adopt(keeper, path, noted)
+        return f"{text}\nlines that wait {move_waiting(words.journal_at(path), files)}", status
     finally:
         await peers.end()
         await keeper.end()
@@ -272,10 +339,12 @@ def adopt(settings: Settings, program: str, version: str, path: str, noted: word
     return status
 
 
-def run(settings: Settings, program: str, version: str, again: Callable[[], Settings]) -> int:
+def run(settings: Settings, program: str, version: str, again: Callable[[], Settings],
+        is_asked: Callable[[], bool]) -> int:
     """Runs a site. The exit status."""
     try:
-        return asyncio.run(Site(settings, program, version, again).serve())
-    except (Stop, Wrong) as why:
+        with Files(settings.folder, settings.site, settings.group).alone():
+            return asyncio.run(Site(settings, program, version, again, is_asked).serve())
+    except (Stop, Wrong, Held) as why:
         print(f"hub: {why}", file=sys.stderr, flush=True)
         return getattr(why, "status", WRONG)

@@ -1,11 +1,11 @@
 """senders.py: what a bank may send and read: it sends in its own name alone, and reads about its own transfers alone.
 
-What a line says is the core's own reading: what counts is the canonical line that the library reads in it. Nothing else looks at the posted
-line: it may have a key twice, escapes, or a BIC of 8 characters.
+What a line says is the core's own reading: what counts is the canonical line that the library reads in it. Nothing else
+looks at the posted line: it may have a key twice, escapes, or a BIC of 8 characters.
 
-A bank sends instructions, recalls and requests about transfers of which it is the originator bank. It sends confirmations, returns and
-refusals of recalls about transfers of which it is the beneficiary bank. An instruction says so that is held, or that comes before in the
-same post.
+A bank sends instructions, recalls and requests about transfers of which it is the originator bank. It sends
+confirmations, returns and refusals of recalls about transfers of which it is the beneficiary bank. An instruction says
+so that is held, or that comes before in the same post.
 """
 from __future__ import annotations
 import csv
@@ -13,22 +13,23 @@ import io
 import itertools
 import json
 from typing import Any, Collection, Iterable, NamedTuple
+from . import limits
+from .faults import BadList, BadText, Unable, WrongList
 from .files import Wrong
-from .keeper import Unable
 from .places import desk_module, niluppang_package
-from .vectors import BadText
 
 ALLOWED, FORBIDDEN, WAITS = "ALLOWED", "FORBIDDEN", "WAITS"
 INSTRUCTION = "pacs.008"
-OF_BENEFICIARY = {"pacs.002", "pacs.004", "camt.029"}  # kinds that a beneficiary bank sends; an originator bank sends the others
-IS_INSTRUCTION = b'"MsgNmId":"pacs.008'  # in the canonical line of an instruction and in no other: quotes in a text are escaped
-MOST_ROWS, MOST_LIST = 20_000, 2 << 20  # rows and bytes of a list whose rows are looked up: a right row has some 80 bytes at most
-TOOLS = ("fields", "check_list")  # of the desk
+# kinds that a beneficiary bank sends; an originator bank sends the others
+OF_BENEFICIARY = {"pacs.002", "pacs.004", "camt.029"}
+# in the canonical line of an instruction and in no other: quotes in a text are escaped
+IS_INSTRUCTION = b'"MsgNmId":"pacs.008'
+TOOLS = ("fields", "check_list", "list_from_csv")  # of the desk
 BLANK = b" \t\r"
 
 
-# what the core reads in a line: the kind, InstgAgt, a pair of DbtrAgt and identification for each transaction, CdtrAgt or None, and the
-# canonical line
+# what the core reads in a line: the kind, InstgAgt, a pair of DbtrAgt and identification for each transaction, CdtrAgt
+# or None, and the canonical line
 class Read(NamedTuple):
     kind: str
     sender: str
@@ -42,10 +43,6 @@ class Verdict(NamedTuple):
     word: str
     why: str | None = None
     transfer: tuple[str, str] | None = None
-
-
-class BadList(BadText):
-    """A list whose rows cannot be looked up, and why."""
 
 
 # ---- what a line says
@@ -65,18 +62,21 @@ def lines_in(text: bytearray | bytes) -> list[bytes]:
 
 
 def instructions_in(text: bytearray | bytes) -> list[bytes]:
-    """The canonical lines of instructions in a text of the process. The others are not read: a recall may have 40 KB."""
+    """The canonical lines of instructions in a text of the process. The others are not read: a recall may have 40
+    KB."""
     return [line for line in lines_in(text) if IS_INSTRUCTION in line]
 
 
 def must(holds: bool | bytes) -> None:
-    """Fails if the library does not do what it says: a line that it read must never be handed on as one that it refused."""
+    """Fails if the library does not do what it says: a line that it read must never be handed on as one that it
+    refused."""
     if not holds:
         raise Unable("the library answers something else than it must")
 
 
 class Reader:
-    """Reads lines as the program does, by the library, which must have the version of the program. Wrong if it cannot be used."""
+    """Reads lines as the program does, by the library, which must have the version of the program. Wrong if it cannot
+    be used."""
 
     def __init__(self, version: str) -> None:
         self.package = niluppang_package()
@@ -85,32 +85,38 @@ class Reader:
         try:
             its_version = self.package.library_version()
         except OSError as fault:
-            raise Wrong(f"{fault}. Debian's package python3-niluppang brings a library, and the variable NILUPPANG_LIBRARY names"
-                        " one") from None
+            raise Wrong(
+                f"{fault}. Debian's package python3-niluppang brings a library, and the variable NILUPPANG_LIBRARY "
+                "names one") from None
         if its_version != version:
-            raise Wrong(f"the library has version {its_version}, and the program {version}: both must read a line alike. The variable"
-                        " NILUPPANG_LIBRARY names another library")
+            raise Wrong(
+                f"the library has version {its_version}, and the program {version}: both must read a line alike. "
+                "The variable NILUPPANG_LIBRARY names another library")
 
     def read(self, lines: list[bytes]) -> list[Read | None]:
         """What the core reads in each line, or None if it refuses the line. Lines have no line feed: else ValueError.
 
-        To the library each line is a message, also one that is a request to the process. The call takes a while. It may run in any thread,
-        and in several at once.
+        To the library each line is a message, also one that is a request to the process. The call takes a while. It may
+        run in any thread, and in several at once.
         """
         different = list(dict.fromkeys(lines))
-        reads = {line: None if text is None else read_of(text) for line, (text, _) in zip(different, self._readings(different))}
+        reads = {line: None if text is None else read_of(text)
+                 for line, (text, _) in zip(different, self._readings(different))}
         return [reads[line] for line in lines]
 
     def refusals(self, lines: list[bytes]) -> list[str]:
-        """Why the core refuses each of some lines, which it refuses all: what the program prints after the number of the line."""
+        """Why the core refuses each of some lines, which it refuses all: what the program prints after the number of
+        the line."""
         reasons = [why for _, why in self._readings(lines) if why]
         must(len(reasons) == len(lines))
         return [why.decode(errors="replace") for why in reasons]
 
     def _readings(self, lines: list[bytes]) -> list[tuple[bytes | None, bytes | None]]:
-        """Of each line its canonical line, or why it is refused: one of the two is None. A blank line is refused without a reason.
+        """Of each line its canonical line, or why it is refused: one of the two is None. A blank line is refused
+        without a reason.
 
-        All are read in one call. With a call for each line, the thread would wait for the interpreter after each of them.
+        All are read in one call. With a call for each line, the thread would wait for the interpreter after each of
+        them.
         """
         if any(b"\n" in line for line in lines):
             raise ValueError("a line has a line feed")
@@ -126,7 +132,8 @@ class Reader:
 
 
 def reading_of(number: int, text: bytes) -> tuple[bytes | None, bytes | None]:
-    """What the library reads in the line with a number: its canonical line, or why it is refused. The other one is None."""
+    """What the library reads in the line with a number: its canonical line, or why it is refused. The other one is
+    None."""
     if text.startswith(b"{"):
         return text, None
     name, _, why = text.partition(b": ")
@@ -144,8 +151,9 @@ def wanted(reads: list[Read | None]) -> list[tuple[str, str]]:
 def judged(reads: list[Read | None], banks: Iterable[str], held: dict[tuple[str, str], set[str]]) -> list[Verdict]:
     """A verdict on each line of a post by somebody who may send in the name of some banks, each a BIC of 11 characters.
 
-    `held` has, by transfer, the beneficiary banks of the instructions that are held for it. An instruction of the post that is allowed
-    counts for the lines after it. What the core refuses is allowed: it is in nobody's name, and is refused.
+    `held` has, by transfer, the beneficiary banks of the instructions that are held for it. An instruction of the post
+    that is allowed counts for the lines after it. What the core refuses is allowed: it is in nobody's name, and is
+    refused.
     """
     known, verdicts = {transfer: set(ones) for transfer, ones in held.items()}, []
     for read in reads:
@@ -159,7 +167,8 @@ def judged(reads: list[Read | None], banks: Iterable[str], held: dict[tuple[str,
 def verdict_on(read: Read, banks: Iterable[str], known: dict[tuple[str, str], set[str]]) -> Verdict:
     """The verdict on a line that was read, if these beneficiary banks are known."""
     if read.sender not in banks:
-        return Verdict(FORBIDDEN, f"InstgAgt is {read.sender}, and not {' or '.join(sorted(banks)) or 'a bank of this client'}")
+        return Verdict(FORBIDDEN,
+                       f"InstgAgt is {read.sender}, and not {' or '.join(sorted(banks)) or 'a bank of this client'}")
     if read.kind not in OF_BENEFICIARY:
         return verdict_on_originator(read)
     transfer, = read.transfers
@@ -171,7 +180,8 @@ def verdict_on(read: Read, banks: Iterable[str], known: dict[tuple[str, str], se
 
 
 def verdict_on_originator(read: Read) -> Verdict:
-    """The verdict on a message of an originator bank: each of its transactions must be about a transfer of the sender."""
+    """The verdict on a message of an originator bank: each of its transactions must be about a transfer of the
+    sender."""
     for place, (originator, _) in enumerate(read.transfers, 1):
         if originator != read.sender:
             which = f" of transaction {place}" if len(read.transfers) > 1 else ""
@@ -182,13 +192,15 @@ def verdict_on_originator(read: Read) -> Verdict:
 def beneficiaries(text: bytearray | bytes, originator: str, tx: str) -> set[str]:
     """The beneficiary banks of the instructions of a transfer, in the text of the messages on it."""
     reads = map(read_of, instructions_in(text))
-    return {read.beneficiary for read in reads if read.beneficiary and read.kind == INSTRUCTION and read.transfers == ((originator, tx),)}
+    return {read.beneficiary for read in reads if read.beneficiary and read.kind == INSTRUCTION
+            and read.transfers == ((originator, tx),)}
 
 
 # ---- what a bank may read
 
 def deciding(text: bytearray | bytes) -> bytes:
-    """What says whose transfer it is, of the text of the messages on it: its instructions or, if it has none, all of them."""
+    """What says whose transfer it is, of the text of the messages on it: its instructions or, if it has none, all of
+    them."""
     return b"\n".join(instructions_in(text) or lines_in(text))
 
 
@@ -202,13 +214,14 @@ def may_read(banks: Iterable[str], originator: str, tx: str, text: bytearray | b
 
 
 def shown(banks: Collection[str], originator: str, tx: str, text: bytes | bytearray) -> bytes:
-    """What a bank is shown of the text of the messages on a transfer of its own: of a recall that another bank sent, the transactions on this
-    transfer alone. The others are about transfers of others."""
+    """What a bank is shown of the text of the messages on a transfer of its own: of a recall that another bank sent,
+    the transactions on this transfer alone. The others are about transfers of others."""
     lines = []
     for line in lines_in(text):
         message = json.loads(line)
         if "TxInf" in message and message["InstgAgt"] not in banks:
-            message["TxInf"] = [part for part in message["TxInf"] if (part["DbtrAgt"], part["OrgnlTxId"]) == (originator, tx)]
+            message["TxInf"] = [part for part in message["TxInf"]
+                                if (part["DbtrAgt"], part["OrgnlTxId"]) == (originator, tx)]
             line = json.dumps(message, ensure_ascii=False, separators=(",", ":")).encode()
         lines.append(line + b"\n")
     return b"".join(lines)
@@ -222,21 +235,36 @@ def must_be_words(bank: str, day: str) -> None:
 
 
 def listed(data: bytes, is_bounded: bool = True) -> list[tuple[int, str, str]]:
-    """The rows of a list, each with its number, its bank and its identification, as check_list.py reads them. That of a bank is bounded."""
-    if is_bounded and len(data) > MOST_LIST:
-        raise BadList(f"the list of a bank has at most {MOST_LIST} bytes")
+    """The rows of a list, each with its number, its bank and its identification, as check_list.py reads them. That of a
+    bank is bounded."""
+    if is_bounded and len(data) > limits.LIST_MOST_BYTES:
+        raise BadList(f"the list of a bank has at most {limits.LIST_MOST_BYTES} bytes")
     try:
-        rows = list(itertools.islice(desk_module("check_list").rows(io.BytesIO(data)), MOST_ROWS + 1 if is_bounded else None))
+        rows = list(itertools.islice(desk_module("check_list").rows(io.BytesIO(data)),
+                                     limits.LIST_MOST_ROWS + 1 if is_bounded else None))
     except csv.Error as fault:
-        raise BadList(f"the list cannot be read: {fault}") from None
-    if is_bounded and len(rows) > MOST_ROWS:
-        raise BadList(f"the list of a bank has at most {MOST_ROWS} rows")
+        raise BadList(desk_module("list_from_csv").kind_fault(data) or f"the list cannot be read: {fault}") from None
+    if is_bounded and len(rows) > limits.LIST_MOST_ROWS:
+        raise BadList(f"the list of a bank has at most {limits.LIST_MOST_ROWS} rows")
     return rows
 
 
+def of_spreadsheet(data: bytes, refused: str) -> bytes:
+    """The list that a spreadsheet meant, which saved it in a way that the program refuses with a text. WrongList if it
+    is no list."""
+    desk = desk_module("list_from_csv")
+    try:
+        found = desk.read(data)
+    except csv.Error as fault:
+        raise WrongList(refused, [f"the list cannot be read: {fault}"]) from None
+    if found.faults:
+        raise WrongList(refused, found.faults)
+    return bytes(desk.as_list(found.rows), "utf-8")
+
+
 def transfers_in(rows: list[tuple[int, str, str]]) -> list[tuple[str, str]]:
-    """The transfers that rows name, each once. A row with other texts than a BIC and an identification names none: the program refuses its
-    list."""
+    """The transfers that rows name, each once. A row with other texts than a BIC and an identification names none: the
+    program refuses its list."""
     fields = desk_module("fields")
 
     def is_one(originator: str, tx: str) -> bool:
@@ -246,24 +274,26 @@ def transfers_in(rows: list[tuple[int, str, str]]) -> list[tuple[str, str]]:
 
 
 def rows_of_list(data: bytes, is_bounded: bool = True) -> list[tuple[str, str]]:
-    """The transfers that have to be looked up before there is a report on a list. BadList if the list is too long, or cannot be read."""
+    """The transfers that have to be looked up before there is a report on a list. BadList if the list is too long, or
+    cannot be read."""
     return transfers_in(listed(data, is_bounded))
 
 
 def held_on(text: bytes, originator: str, tx: str) -> tuple[list[Any], set[str]]:
-    """What check_list.py looks at of the text of the messages on a transfer: its instructions, and the banks of its other messages."""
+    """What check_list.py looks at of the text of the messages on a transfer: its instructions, and the banks of its
+    other messages."""
     instructions, banks = desk_module("check_list").held_in(lines_in(deciding(text)), {(originator, tx)})
     return instructions.get((originator, tx), []), banks.get((originator, tx), set())
 
 
 def list_findings(bank: str, day: str, data: bytes, held: dict[tuple[str, str], tuple[list[Any], set[str]]],
                   is_bounded: bool = True) -> tuple[list[str], list[str]]:
-    """Why there is no report on a list of a bank: a sentence of check_list.py for each row that is a transfer of other banks. And what is
-    said of the other rows.
+    """Why there is no report on a list of a bank: a sentence of check_list.py for each row that is a transfer of other
+    banks. And what is said of the other rows.
 
-    `held` has what `held_on` finds for each transfer that rows_of_list names. The form of a list is left to the program, which refuses a
-    wrong one. A sentence of the first kind names a bank that the asking bank need not know: it is for the record and for the desk. What
-    is before its colon is the row.
+    `held` has what `held_on` finds for each transfer that rows_of_list names. The form of a list is left to the
+    program, which refuses a wrong one. A sentence of the first kind names a bank that the asking bank need not know: it
+    is for the record and for the desk. What is before its colon is the row.
     """
     desk, rows = desk_module("check_list"), listed(data, is_bounded)
     known = {transfer: held[transfer] for transfer in transfers_in(rows)}

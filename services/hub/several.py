@@ -1,7 +1,8 @@
 """several.py: the sites of one command, each a process of its own, which is started again when it ends.
 
-SIGHUP has it ask anew which sites there shall be. A site that is none of them any more ends in peace, a new one is started, and one whose
-words changed is ended and started with the new ones. All others get SIGHUP, too. No site waits for another one.
+SIGHUP has it ask anew which sites there shall be. A site that is none of them any more ends in peace, a new one is
+started, and one whose words changed is ended and started with the new ones. All others get SIGHUP, too. No site waits
+for another one.
 """
 from __future__ import annotations
 import signal
@@ -9,12 +10,17 @@ import subprocess
 import sys
 import time
 from typing import Callable
+from . import limits
 from .files import Wrong
 from .process import ends_with_parent
 
 WRONG, AWAY = 2, 3  # exit statuses of a site that must not start, and of one that cannot
-FIRST_PAUSE, MOST_PAUSE, LONG = 0.1, 2.0, 10.0  # seconds before a site is started again, and after which it ran for long
-LOOK = 0.05  # seconds after which the sites are looked at again
+
+
+def begins() -> None:
+    """What a process does before it is a site: it passes over SIGHUP until it reads its files."""
+    signal.signal(signal.SIGHUP, signal.SIG_IGN)
+    ends_with_parent()
 
 
 def say(text: str) -> None:
@@ -22,19 +28,20 @@ def say(text: str) -> None:
 
 
 class Child:
-    """A site that is a process of its own, with the words that start it. Without words it is one no more, after its process ended."""
+    """A site that is a process of its own, with the words that start it. Without words it is one no more, after its
+    process ended."""
     process: subprocess.Popen[bytes] | None
     words: list[str] | None
 
     def __init__(self, number: int, words: list[str]) -> None:
-        self.number, self.words, self.pause = number, words, FIRST_PAUSE
+        self.number, self.words, self.pause = number, words, limits.SITES_FIRST_PAUSE_SECONDS
         self.is_over = False  # it must not start, and stays away
         self.start()
 
     def start(self) -> None:
         self.began, self.next, self.ends = time.monotonic(), 0.0, False
         try:
-            self.process = subprocess.Popen(self.words or [], preexec_fn=ends_with_parent)
+            self.process = subprocess.Popen(self.words or [], preexec_fn=begins)
         except OSError as fault:
             self.process = None
             say(f"site {self.number} cannot be started: {fault}")
@@ -50,10 +57,11 @@ class Child:
             self.process.terminate()
 
     def be(self, words: list[str] | None) -> None:
-        """From now on it has these words, or none. With the same ones it reads its configuration again. One that does not run is tried."""
+        """From now on it has these words, or none. With the same ones it reads its configuration again. One that does
+        not run is tried."""
         is_same, self.words = words == self.words, words
         if self.status() is not None:
-            self.is_over, self.pause, self.next = False, FIRST_PAUSE, time.monotonic()
+            self.is_over, self.pause, self.next = False, limits.SITES_FIRST_PAUSE_SECONDS, time.monotonic()
         elif not is_same:
             self.end()
         elif self.process and not self.ends:
@@ -73,7 +81,9 @@ class Child:
             self.is_over = True
             say(f"site {self.number} must not start, and the others go on without it")
         elif not self.next:
-            self.pause = FIRST_PAUSE if now - self.began > LONG else min(2 * self.pause, MOST_PAUSE)
+            is_long = now - self.began > limits.SITES_LONG_SECONDS
+            self.pause = (limits.SITES_FIRST_PAUSE_SECONDS if is_long
+                          else min(2 * self.pause, limits.SITES_MOST_PAUSE_SECONDS))
             self.next = now + self.pause
             say(f"site {self.number} ended with {status}, and is started again")
         return True
@@ -98,7 +108,7 @@ class Several:
                 self.children = {number: child for number, child in self.children.items() if child.look()}
                 if all(child.is_over for child in self.children.values()):
                     return WRONG
-                time.sleep(LOOK)
+                time.sleep(limits.SITES_LOOK_SECONDS)
             return 0
         finally:
             self.end()

@@ -1,7 +1,8 @@
 """texts.py: the long texts of a site. A text is made once for a vector, and all who ask for it share it.
 
-A text is kept as long as somebody reads it, and a short one until the vector has grown. Not more than a few long ones are there at a time:
-who asks for one more gets an older one, with its vector. Texts are made in a fifth of the time at most, so that posts do not wait for them.
+A text is kept as long as somebody reads it, and a short one until the vector has grown. Not more than a few long ones
+are there at a time: who asks for one more gets an older one, with its vector. Texts are made in a fifth of the time at
+most, so that posts do not wait for them.
 """
 from __future__ import annotations
 import asyncio
@@ -9,23 +10,24 @@ import hashlib
 import time
 import weakref
 from typing import Any
-from .keeper import Busy, Keeper
-
-MOST_KEPT = 32 << 20  # bytes of a text that is kept when nobody reads it
-MOST_THERE = 4  # long texts that are there at the same time
-SHARE, MOST_PAUSE = 4, 30.0  # after the seconds that a text took, so many times as long passes before it is made again, if that is short
+from . import limits
+from .digests import digests_in, head_of
+from .faults import Busy
+from .keeper import Keeper
+from .starts import DIGESTS
 
 
 class Text:
-    """A text and its vector."""
+    """A text, its vector, and the head with the digests of what was held when it was made."""
 
-    def __init__(self, data: bytes, vector: str, mark: str) -> None:
-        self.data, self.vector, self.mark = data, vector, mark
+    def __init__(self, data: bytes, vector: str, shown: str, mark: str) -> None:
+        self.data, self.vector, self.shown, self.mark = data, vector, shown, mark
 
 
-def mark_of(name: str, group: int, vector: str) -> str:
-    """What stands for a text in a request that asks whether it changed."""
-    return f'"{hashlib.sha256(f"{name} {group} {vector}".encode()).hexdigest()[:32]}"'
+def mark_of(name: str, group: int, held: str) -> str:
+    """What a request has for a text if it asks whether that changed. Sites that hold other entries under the same
+    numbers have another one."""
+    return f'"{hashlib.sha256(f"{name} {group} {held}".encode()).hexdigest()[:32]}"'
 
 
 class Texts:
@@ -44,22 +46,23 @@ class Texts:
         last = self.last.get(name)
         return last() if isinstance(last, weakref.ref) else last
 
-    def now(self, name: str) -> str:
-        """The mark of the text as it is now."""
-        return mark_of(name, self.keeper.group, self.keeper.vector)
+    def now(self, name: str) -> str | None:
+        """The mark of the text as it is now. None while the digests of what came last are not known yet."""
+        held = self.keeper.holding.held()
+        return None if held is None else mark_of(name, self.keeper.group, held)
 
     async def get(self, name: str) -> Text:
         """The text of a name, for the vector as it is now or was a moment ago."""
         while True:
             text = self.last_text(name)
-            if text is not None and text.vector == self.keeper.vector:
+            if text is not None and text.vector == self.keeper.holding.vector:
                 return text
-            if sum(len(one.data) > MOST_KEPT for one in self.there) >= MOST_THERE:
+            if sum(len(one.data) > limits.TEXT_KEPT_BYTES for one in self.there) >= limits.TEXTS_MOST_THERE:
                 if text is None:
                     raise Busy()
                 return text
             pause = self.next_at.get(name, 0) - time.monotonic()
-            if pause > MOST_PAUSE:
+            if pause > limits.TEXT_MOST_PAUSE_SECONDS:
                 if text is None:
                     raise Busy()
                 return text
@@ -73,11 +76,13 @@ class Texts:
     async def _made(self, name: str) -> Text:
         try:
             began = time.monotonic()
-            answer = await self.keeper.answer(f"? {name}".encode())
-            data, text = answer.text, Text(answer.text, answer.vector, mark_of(name, self.keeper.group, answer.vector))
-            self.next_at[name] = time.monotonic() + SHARE * (time.monotonic() - began)
+            answer, digests = await self.keeper.ask_all([f"? {name}".encode(), DIGESTS])
+            held = digests_in(digests.text.decode())
+            mark = mark_of(name, self.keeper.group, head_of(held))
+            data, text = answer.text, Text(answer.text, answer.vector, head_of(held[:limits.DIGESTS_MOST_SHOWN]), mark)
+            self.next_at[name] = time.monotonic() + limits.TEXT_PAUSE_TIMES * (time.monotonic() - began)
             self.there.add(text)
-            self.last[name] = text if len(data) <= MOST_KEPT else weakref.ref(text)
+            self.last[name] = text if len(data) <= limits.TEXT_KEPT_BYTES else weakref.ref(text)
             return text
         finally:
             del self.making[name]

@@ -17,7 +17,8 @@ def answer_file(work: str, name: str, word: str) -> str:
 
 
 def run_program(program: str, words: list[str], source: str, target: BinaryIO) -> bytes:
-    """Runs the program on a file, and writes its answer to another one. What it writes to standard error is the result."""
+    """Runs the program on a file, and writes its answer to another one. What it writes to standard error is the
+    result."""
     with open(source, "rb") as lines:
         done = subprocess.run([program, *words], stdin=lines, stdout=target, stderr=subprocess.PIPE)
     if done.returncode not in TAKEN:
@@ -28,7 +29,8 @@ def run_program(program: str, words: list[str], source: str, target: BinaryIO) -
 
 def refused_lines(errors: bytes) -> dict[int, bytes]:
     """Each refused line that the program reports, by its number."""
-    return {int(number): fault for number, fault in (line[len(b"line "):].split(b": ", 1) for line in errors.splitlines())}
+    return {int(number): fault for number, fault in (line[len(b"line "):].split(b": ", 1)
+                                                     for line in errors.splitlines())}
 
 
 def write_refused(path: str, errors: bytes, places: array.array[int]) -> int:
@@ -45,8 +47,8 @@ def write_refused(path: str, errors: bytes, places: array.array[int]) -> int:
 
 
 def answer_part(work: str, name: str, program: str, commands: list[Any]) -> int:
-    """Writes the answer to each command, a word for its file with the words of the command line, and the refused lines. The result
-    is how many lines were refused."""
+    """Writes the answer to each command, a word for its file with the words of the command line, and the refused lines.
+    The result is how many lines were refused."""
     refused = None
     for word, words in commands:
         with whole(answer_file(work, name, word)) as target:

@@ -1,4 +1,5 @@
-"""files.py: files that are there whole or not at all, also after a power cut, numbers in files, and results that are kept for a later run."""
+"""files.py: files that are there whole or not at all, also after a power cut, numbers in files, and results that are
+kept for a later run."""
 from __future__ import annotations
 import array
 import contextlib
@@ -19,7 +20,8 @@ class Stop(Exception):
 
 @contextlib.contextmanager
 def whole(path: pathlib.Path | str) -> Iterator[BinaryIO]:
-    """A file that is written under another name, and gets its own name once it is whole. If writing fails, nothing is left."""
+    """A file that is written under another name, and gets its own name once it is whole. If writing fails, nothing is
+    left."""
     path = pathlib.Path(path)
     path.parent.mkdir(parents=True, exist_ok=True)
     made = path.with_name(f"{path.name}.{os.uname().nodename}-{os.getpid()}-{threading.get_ident()}.new")
@@ -53,8 +55,8 @@ def read_json(path: pathlib.Path | str) -> Any:
 
 
 def kept(path: str, make: Callable[[], Any]) -> Any:
-    """What was made before and is kept in a file, else what is made now, which is kept then, in a list of its own. It is made of lists,
-    texts and numbers."""
+    """What was made before and is kept in a file, else what is made now, which is kept then, in a list of its own. It
+    is made of lists, texts and numbers."""
     stored = read_json(path)
     if stored is None:
         with whole(path) as file:

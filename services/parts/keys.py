@@ -1,10 +1,10 @@
 """keys.py: the keys of a line: the identity of its message and the transfers that the message names, each as a number.
 
-The numbers are the first eight bytes of a BLAKE2b hash, so that all workers find the same ones. Two keys may have one number. Then
-more messages come into one part than have to, which changes no answer.
+The numbers are the first eight bytes of a BLAKE2b hash, so that all workers find the same ones. Two keys may have one
+number. Then more messages come into one part than have to, which changes no answer.
 
-A JSON reader that exists reads the line: orjson if it is there, else the one of Python. Each line that `sct_sites` takes has keys
-here. A line without keys is not a message, and `sct_sites` refuses it: answers.py checks that.
+A JSON reader that exists reads the line: orjson if it is there, else the one of Python. Each line that `sct_sites`
+takes has keys here. A line without keys is not a message, and `sct_sites` refuses it: answers.py checks that.
 """
 from __future__ import annotations
 import hashlib
@@ -43,8 +43,8 @@ def words_of(line: bytes) -> tuple[tuple[str, str, str], list[tuple[str, str]]]:
 
 
 def keys_of(line: bytes) -> tuple[int | None, list[int]]:
-    """The number of the identity of a line's message, and those of the transfers that it names. A line that is not a message has
-    no identity and names no transfer."""
+    """The number of the identity of a line's message, and those of the transfers that it names. A line that is not a
+    message has no identity and names no transfer."""
     try:
         identity, transfers = words_of(line)
         return number(identity), [number(words) for words in transfers]

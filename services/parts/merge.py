@@ -1,9 +1,11 @@
 """merge.py: the answers of all parts as one, and the check that the parts share nothing.
 
-More parts than a process may have files are merged in levels: first some of them into one text each, with the part of each piece beside it.
+More parts than a process may have files are merged in levels: first some of them into one text each, with the part of
+each piece beside it.
 
-The check reads what `sct_sites` wrote of each part: the transfers of its status text, which names each transfer that a message of
-the part names, and the identities of its archive text, which has each message of the part. None may be in two parts.
+The check reads what `sct_sites` wrote of each part: the transfers of its status text, which names each transfer that a
+message of the part names, and the identities of its archive text, which has each message of the part. None may be in
+two parts.
 """
 from __future__ import annotations
 import heapq
@@ -48,13 +50,15 @@ def messages_in(path: str, part: str) -> Iterator[tuple[Any, str, bytes]]:
 
 
 def rows_in(path: str, part: str) -> Iterator[tuple[Any, str, bytes]]:
-    """Each row of a report after its header. Of the rows of one transfer those come last whose part has no message of it."""
+    """Each row of a report after its header. Of the rows of one transfer those come last whose part has no message of
+    it."""
     with open(path, "rb") as file:
         next(file)
         for line in file:
             bank, rest = line.split(b",", 1)
             quoted = re.match(rb'"([^"]*)"', rest)
-            yield (bank, quoted.group(1) if quoted else rest.split(b",", 1)[0], line.endswith(b",UNKNOWN\n")), part, line
+            yield (bank, quoted.group(1) if quoted else rest.split(b",", 1)[0],
+                   line.endswith(b",UNKNOWN\n")), part, line
 
 
 def refused_in(path: str, part: str) -> Iterator[tuple[Any, str, bytes]]:
@@ -72,7 +76,8 @@ def sorted_from(work: str, names: list[str], word: str,
     level = 0
     while len(sources) > MOST_OPEN:
         groups = [sources[at:at + MOST_OPEN] for at in range(0, len(sources), MOST_OPEN)]
-        sources = [merged_source(f"{work}/merging/{word}.{level}.{place}", word, read, group) for place, group in enumerate(groups)]
+        sources = [merged_source(f"{work}/merging/{word}.{level}.{place}", word, read, group)
+                   for place, group in enumerate(groups)]
         level += 1
     return iter(heapq.merge(*sources))
 
@@ -88,7 +93,8 @@ def merged_source(path: str, word: str, read: Callable[[str, Any], Iterator[tupl
     return with_parts(path, read)
 
 
-def with_parts(path: str, read: Callable[[str, Any], Iterator[tuple[Any, str, bytes]]]) -> Iterator[tuple[Any, str, bytes]]:
+def with_parts(path: str, read: Callable[[str, Any], Iterator[tuple[Any, str, bytes]]]) -> Iterator[tuple[Any, str,
+                                                                                                          bytes]]:
     """What a merged text has, each with its own part."""
     with open(f"{path}.parts") as parts:
         for (key, _, its), part in zip(read(path, None), parts):
@@ -164,18 +170,20 @@ def merged_totals(work: str, names: list[str], files: int) -> Iterator[bytes]:
 
 
 def merged_refused(work: str, names: list[str], files: int) -> Iterator[bytes]:
-    """The refused lines as `sct_sites` reports them: those of one file by their line, those of several by their file too."""
+    """The refused lines as `sct_sites` reports them: those of one file by their line, those of several by their file
+    too."""
     for (file, line), _, fault in sorted_from(work, names, "refused", refused_in):
         yield b"line %d: %b" % (line, fault) if files == 1 else b"file %d line %d: %b" % (file, line, fault)
 
 
-MERGED = {"status": merged_status, "archive": merged_archive, "totals": merged_totals, "report": merged_report, "kept": merged_kept,
+MERGED = {"status": merged_status, "archive": merged_archive, "totals": merged_totals,
+          "report": merged_report, "kept": merged_kept,
           "closed": merged_closed, "refused": merged_refused}
 
 
 def merge(work: str, names: list[str], word: str, files: int, is_asked: bool) -> int:
-    """Writes the text of one command from those of all parts. A text that was not asked for is only checked. The result is how many
-    bytes it has."""
+    """Writes the text of one command from those of all parts. A text that was not asked for is only checked. The result
+    is how many bytes it has."""
     text = MERGED[word](work, names, files)
     if not is_asked:
         return sum(map(len, text))

@@ -1,8 +1,9 @@
 """parts.py: an input cut into blocks, the keys of each block, and the parts into which its lines go.
 
-A block is some bytes of one file, from the beginning of a line to the end of one. A worker reads a block twice: once for the keys of
-its lines, and once more to cut it, when the ties of all blocks are known. The lines of one part from all blocks are then put together
-in a file, which is an input of `sct_sites`. The places of its lines are in a file beside it, in the same order.
+A block is some bytes of one file, from the beginning of a line to the end of one. A worker reads a block twice: once
+for the keys of its lines, and once more to cut it, when the ties of all blocks are known. The lines of one part from
+all blocks are then put together in a file, which is an input of `sct_sites`. The places of its lines are in a file
+beside it, in the same order.
 
 A place is a number: the file, the line, and whether the line has no keys. Files and lines count from 1.
 """
@@ -53,7 +54,8 @@ def cuts(path: str, size: int) -> list[int]:
 
 def blocks_of(paths: list[str], size: int) -> list[Block]:
     """The blocks of all files, each of about so many bytes."""
-    ends = [(file, path, *two) for file, path in enumerate(paths, 1) for places in [cuts(path, size)] for two in zip(places, places[1:])]
+    ends = [(file, path, *two) for file, path in enumerate(paths, 1) for places in [cuts(path, size)]
+            for two in zip(places, places[1:])]
     return [Block(number, *end) for number, end in enumerate(ends)]
 
 
@@ -73,8 +75,8 @@ def lines_of(block: Block) -> Iterator[bytes]:
 # ---- the keys of a block
 
 def read_block(work: str, block: list[Any], many: int) -> dict[str, Any]:
-    """Writes two files: a number for each line, which is that of the first transfer that it names, and the identity and that
-    transfer for each message, in so many buckets by the identity."""
+    """Writes two files: a number for each line, which is that of the first transfer that it names, and the identity and
+    that transfer for each message, in so many buckets by the identity."""
     its, firsts, buckets = Block(*block), array.array("Q"), [array.array("Q") for _ in range(many)]
     pairs: set[tuple[int, int]] = set()
     for line in lines_of(its):
@@ -110,12 +112,13 @@ def read_roots(work: str) -> dict[int, int]:
 
 
 def cut_block(work: str, block: list[Any], before: int, parts: int) -> dict[str, list[int]]:
-    """Writes the lines of a block and their places, part after part. `before` is how many lines of the file come before it. The
-    result is where each part ends in the two files."""
+    """Writes the lines of a block and their places, part after part. `before` is how many lines of the file come before
+    it. The result is where each part ends in the two files."""
     its, roots = Block(*block), read_roots(work)
     lines: list[list[bytes]] = [[] for _ in range(parts)]
     places = [array.array("Q") for _ in range(parts)]
-    for number, (transfer, line) in enumerate(zip(numbers(f"{work}/keys/{its.number}.transfers"), lines_of(its)), before + 1):
+    for number, (transfer, line) in enumerate(zip(numbers(f"{work}/keys/{its.number}.transfers"), lines_of(its)),
+                                              before + 1):
         if transfer != BLANK:
             part = part_of(transfer, number, roots, parts)
             lines[part].append(line if line.endswith(b"\n") else line + b"\n")
@@ -147,8 +150,8 @@ def part_file(work: str, name: str, what: str) -> str:
 
 
 def gather_part(work: str, part: int, cut: list[dict[str, list[int]]], most: int) -> list[list[int | str]]:
-    """Writes the files of a part, and answers their names, with how many bytes and lines each has. A part of more than `most` bytes
-    becomes several. One without a line is left out, unless it is the first."""
+    """Writes the files of a part, and answers their names, with how many bytes and lines each has. A part of more than
+    `most` bytes becomes several. One without a line is left out, unless it is the first."""
     size, places = (put_together(work, part, cut, what) for what in ("lines", "places"))
     if size > most:
         return split_part(work, part, most)
@@ -162,7 +165,8 @@ def root_of(line: bytes, number: int, roots: dict[int, int]) -> int:
 
 
 def pieces_of(sizes: collections.Counter[int], most: int) -> tuple[dict[int, int], int]:
-    """The piece of each root, so that no piece has more than `most` bytes: the largest first, each into the first with room."""
+    """The piece of each root, so that no piece has more than `most` bytes: the largest first, each into the first with
+    room."""
     piece_of: dict[int, int] = {}
     fills: list[int] = []
     for root, size in sizes.most_common():
@@ -174,7 +178,8 @@ def pieces_of(sizes: collections.Counter[int], most: int) -> tuple[dict[int, int
 
 
 def split_part(work: str, part: int, most: int) -> list[list[int | str]]:
-    """Writes a part that is too large as several, each of at most `most` bytes. Lines that are tied together stay together."""
+    """Writes a part that is too large as several, each of at most `most` bytes. Lines that are tied together stay
+    together."""
     path, roots = part_file(work, f"{part}", "lines"), read_roots(work)
     sizes: collections.Counter[int] = collections.Counter()
     with open(path, "rb") as file:
@@ -212,5 +217,6 @@ def too_large(path: str, chosen: list[bool], size: int, most: int) -> str:
             named["|".join(words)].update(map("|".join, tied))
     transfers = sorted({transfer for its in named.values() for transfer in its})
     identity = max(named, key=lambda name: len(named[name]))
-    return (f"{sum(chosen)} messages of {size} bytes are tied together, and a part has at most {most} bytes (--most). They name"
-            f" {len(transfers)} transfers, the first of them {transfers[0]}. The identity {identity} names {len(named[identity])}")
+    return (f"{sum(chosen)} messages of {size} bytes are tied together, and a part has at most {most} bytes "
+            f"(--most). They name {len(transfers)} transfers, the first of them {transfers[0]}. The identity "
+            f"{identity} names {len(named[identity])}")

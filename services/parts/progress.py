@@ -7,8 +7,10 @@ import sys
 import time
 from typing import Callable, TextIO
 
-# the steps in their order: what the calls of each are on, and the seconds that it took when docs/developers/costs.md was measured
-STEPS = {"read": ("blocks", 84), "ties": ("groups", 3), "cut": ("blocks", 17), "gather": ("parts", 6), "answer": ("parts", 157),
+# the steps in their order: what the calls of each are on, and the seconds that it took when docs/developers/costs.md
+# was measured
+STEPS = {"read": ("blocks", 84), "ties": ("groups", 3), "cut": ("blocks", 17),
+         "gather": ("parts", 6), "answer": ("parts", 157),
          "check": ("parts", 25), "merge": ("texts", 83)}
 CLEAR = "\r\033[K"  # from here on the line is empty
 
@@ -22,7 +24,8 @@ def clock(seconds: float) -> str:
 class Progress:
     """Says how far a run is, on standard error. `steps` are those that the run has, in their order."""
 
-    def __init__(self, steps: list[str], is_asked: bool, stream: TextIO = sys.stderr, now: Callable[[], float] = time.monotonic) -> None:
+    def __init__(self, steps: list[str], is_asked: bool, stream: TextIO = sys.stderr,
+                 now: Callable[[], float] = time.monotonic) -> None:
         self.steps, self.stream, self.now = list(steps), stream, now
         self.is_terminal = stream.isatty()
         self.is_shown = is_asked or self.is_terminal
@@ -38,7 +41,8 @@ class Progress:
     def text(self, step: str, done: int, many: int) -> str:
         left = self.left(step, done, many)
         about = "" if left is None else f", about {clock(left)} left"
-        return f"parts: step {self.steps.index(step) + 1} of {len(self.steps)}, {step}: {done} of {many} {STEPS[step][0]}{about}"
+        return (f"parts: step {self.steps.index(step) + 1} of {len(self.steps)}, {step}: {done} of {many} "
+                f"{STEPS[step][0]}{about}")
 
     def say(self, step: str, done: int, many: int) -> None:
         """Says that so many calls of a step have ended."""

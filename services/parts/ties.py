@@ -1,7 +1,8 @@
-"""ties.py: the transfers that have to be in one part: those that one message names, and those whose messages share an identity.
+"""ties.py: the transfers that have to be in one part: those that one message names, and those whose messages share an
+identity.
 
-Messages of one identity that name different transfers contradict each other, and a list of transactions names several transfers.
-These are few. All other transfers are by themselves.
+Messages of one identity that name different transfers contradict each other, and a list of transactions names several
+transfers. These are few. All other transfers are by themselves.
 """
 from __future__ import annotations
 from typing import Iterable
@@ -42,8 +43,8 @@ def pairs_of(transfers: list[int]) -> set[tuple[int, int]]:
 
 
 def pairs_in(work: str, slices: list[list[int]]) -> list[tuple[int, int]]:
-    """The pairs of transfers that the identities of one bucket tie together. Each block has a slice of its file with the numbers of
-    identities and of transfers in turn."""
+    """The pairs of transfers that the identities of one bucket tie together. Each block has a slice of its file with
+    the numbers of identities and of transfers in turn."""
     first: dict[int, int] = {}
     pairs: set[tuple[int, int]] = set()
     for block, begin, end in slices:
