@@ -1,7 +1,8 @@
-"""bindings.py: makes what pip and programs in Java take of the release: a wheel with the Python package and the library, and niluppang.jar.
+"""bindings.py: makes what pip and programs in Java take of the release: a wheel with the Python package and the
+library, and niluppang.jar.
 
-Both are written here, by zipfile: neither setuptools nor wheel is needed, and the same files make the same bytes. A jar is made if this
-machine has a JDK, from version 17 on, and Debian's package libjna-java.
+Both are written here, by zipfile: neither setuptools nor wheel is needed, and the same files make the same bytes. A jar
+is made if this machine has a JDK, from version 17 on, and Debian's package libjna-java.
 """
 from __future__ import annotations
 import base64
@@ -44,7 +45,8 @@ def zipped(files: dict[str, bytes], seconds: int) -> bytes:
 # ---- the wheel
 
 def platform(data: Any) -> Any:
-    """The name that pip has for a Linux on which a shared library runs: by the newest version of the GNU C library that it names."""
+    """The name that pip has for a Linux on which a shared library runs: by the newest version of the GNU C library that
+    it names."""
     libraries, versions = debian.named_by(data)
     strange = sorted({*libraries - set(debian.OWNERS), *(it for it in versions if not re.fullmatch(r"2(\.\d+)+", it))})
     if strange:
@@ -61,8 +63,10 @@ def metadata(project: Any, readme: Any) -> Any:
     author, = re.findall(r'^authors = \[\{ name = "(.*)" \}\]$', project, re.M)
     licence, = re.findall(r'^license = \{ text = "(.*)" \}$', project, re.M)
     listed, = re.findall(r"^classifiers = \[(.*?)^\]", project, re.M | re.S)
-    lines = ["Metadata-Version: 2.1", "Name: niluppang", f"Version: {VERSION}", f"Summary: {text('description')}", f"Author: {author}",
-             f"License: {licence}", *(f"Classifier: {it}" for it in re.findall(r'"(.*)"', listed)), f"Requires-Python: {text('requires-python')}",
+    lines = ["Metadata-Version: 2.1", "Name: niluppang", f"Version: {VERSION}",
+             f"Summary: {text('description')}", f"Author: {author}",
+             f"License: {licence}", *(f"Classifier: {it}" for it in re.findall(r'"(.*)"', listed)),
+             f"Requires-Python: {text('requires-python')}",
              "Description-Content-Type: text/markdown"]
     return "\n".join(lines) + "\n\n" + readme
 
@@ -92,7 +96,9 @@ def jar(seconds: int) -> bytes:
     if shutil.which("javac") is None or not os.path.isfile(JNA):
         raise Missing("there is no JDK or no JNA on this machine: apt-get install openjdk-17-jdk-headless libjna-java")
     with tempfile.TemporaryDirectory() as folder:
-        words = ["javac", "--release", "17", "-encoding", "UTF-8", "-cp", JNA, "-d", folder, *sorted(SOURCES.glob("niluppang/*.java"))]
+        words = ["javac", "--release", "17", "-encoding", "UTF-8", "-cp", JNA, "-d", folder,
+                 *sorted(SOURCES.glob("niluppang/*.java"))]
         subprocess.run(list(map(str, words)), check=True)
-        classes = {path.relative_to(folder).as_posix(): path.read_bytes() for path in sorted(pathlib.Path(folder).rglob("*.class"))}
+        classes = {path.relative_to(folder).as_posix(): path.read_bytes()
+                   for path in sorted(pathlib.Path(folder).rglob("*.class"))}
     return zipped({"META-INF/MANIFEST.MF": MANIFEST.encode(), **classes}, seconds)

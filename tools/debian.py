@@ -1,8 +1,9 @@
 """debian.py: makes the Debian packages of the files of the release. tools/package.py calls it.
 
-A package has files of the archive at the places that Debian has for them, byte for byte: one sum says that the program of both is the one
-that was proved. It is written here: an archive of `ar`, with two of `tar` in it. So no command of Debian is needed, and no root: owners,
-modes and times are written here, whoever runs it. dpkg-deb would take them from a folder, and its compression differs by version.
+A package has files of the archive at the places that Debian has for them, byte for byte: one sum says that the program
+of both is the one that was proved. It is written here: an archive of `ar`, with two of `tar` in it. So no command of
+Debian is needed, and no root: owners, modes and times are written here, whoever runs it. dpkg-deb would take them from
+a folder, and its compression differs by version.
 """
 from __future__ import annotations
 import datetime
@@ -38,19 +39,22 @@ NEWS = f"""niluppang ({REVISION}) unstable; urgency=medium
  -- {MAINTAINER}  {{date}}
 """
 # which package has a library that a program or a library names, with the newest version of it that they name
-OWNERS = {**dict.fromkeys(["libc.so.6", "libm.so.6", "libpthread.so.0", "libdl.so.2", "librt.so.1", "ld-linux-x86-64.so.2"],
+OWNERS = {**dict.fromkeys(["libc.so.6", "libm.so.6", "libpthread.so.0", "libdl.so.2",
+                           "librt.so.1", "ld-linux-x86-64.so.2"],
                           "libc6 (>= {})"), "libgcc_s.so.1": "libgcc-s1"}
 PKG_CONFIG = pkg_config("/usr", "lib/x86_64-linux-gnu")
 
 
-# a file of a package: its bytes and its mode, or where it leads to if it is a link; a folder has neither bytes nor a link
+# a file of a package: its bytes and its mode, or where it leads to if it is a link; a folder has neither bytes nor a
+# link
 class Entry(NamedTuple):
     data: bytes | None
     mode: int = 0o644
     link: str | None = None
 
 
-# a package: its fields in their order, the texts of its control files by name, and the tags of lintian that it overrides, each with why
+# a package: its fields in their order, the texts of its control files by name, and the tags of lintian that it
+# overrides, each with why
 class Package(NamedTuple):
     fields: dict[str, str]
     files: dict[str, Entry]
@@ -59,10 +63,12 @@ class Package(NamedTuple):
 
 
 # tags of lintian that say what is meant so
-OVERRIDES = {"bogus-mail-host": "the maintainers have no public address yet", "bogus-mail-host-in-debian-changelog": "the same",
+OVERRIDES = {"bogus-mail-host": "the maintainers have no public address yet",
+             "bogus-mail-host-in-debian-changelog": "the same",
              "initial-upload-closes-no-bugs": "it is no upload to Debian"}
 STRIPPED = {"unstripped-binary-or-object": "the file is that of the release, byte for byte"}
-OF_HUB = {"non-standard-dir-perm": "keys of sites are in it", "maintainer-script-calls-systemctl": "a pattern names all instances"}
+OF_HUB = {"non-standard-dir-perm": "keys of sites are in it",
+          "maintainer-script-calls-systemctl": "a pattern names all instances"}
 
 # ---- what each package says
 
@@ -137,7 +143,8 @@ rm -rf /usr/share/niluppang/services/hub/__pycache__
 HUB_POSTRM = """\
 #!/bin/sh
 set -e
-# journals in /var/lib/niluppang are payments, and keys in /etc/niluppang are not of this package: they stay, and so does who owns them
+# journals in /var/lib/niluppang are payments, and keys in /etc/niluppang are not of this package: they stay, and so
+# does who owns them
 if [ "$1" = purge ]; then
     rm -f /etc/systemd/system/*.wants/niluppang-hub@*.service
     if [ ! -e /var/lib/niluppang ] && [ ! -e /etc/niluppang ] && command -v deluser >/dev/null; then
@@ -158,7 +165,8 @@ def control(name: str, architecture: str, **more: str) -> dict[str, str]:
     """The fields of a package in their order, without its size, which its files decide."""
     section, about, text = ABOUT[name]
     source = {} if name == "niluppang" else {"Source": "niluppang"}
-    return {"Package": name, **source, "Version": REVISION, "Architecture": architecture, "Maintainer": MAINTAINER, "Section": section,
+    return {"Package": name, **source, "Version": REVISION, "Architecture": architecture,
+            "Maintainer": MAINTAINER, "Section": section,
             "Priority": "optional", **{key.replace("_", "-"): value for key, value in more.items() if value},
             "Description": "\n".join([about, *(" " + line for line in text.splitlines())])}
 
@@ -227,10 +235,13 @@ def shared_library(found: dict[str, bytes]) -> Package:
 
 
 def development(found: dict[str, bytes]) -> Package:
-    header, archive, link = Entry(found["include/niluppang.h"]), Entry(found["lib/libniluppang.a"]), Entry(None, 0o777, SONAME)
-    files = {"usr/include/niluppang.h": header, LIBRARIES + "libniluppang.a": archive, LIBRARIES + "libniluppang.so": link,
+    header, archive, link = (Entry(found["include/niluppang.h"]), Entry(found["lib/libniluppang.a"]),
+                             Entry(None, 0o777, SONAME))
+    files = {"usr/include/niluppang.h": header, LIBRARIES + "libniluppang.a": archive,
+             LIBRARIES + "libniluppang.so": link,
              LIBRARIES + "pkgconfig/niluppang.pc": Entry(PKG_CONFIG.encode())}
-    return Package(control("libniluppang-dev", "amd64", Multi_Arch="same", Depends=f"{LIBRARY} (= {REVISION}), libc6-dev"), files)
+    return Package(control("libniluppang-dev", "amd64", Multi_Arch="same",
+                           Depends=f"{LIBRARY} (= {REVISION}), libc6-dev"), files)
 
 
 def python(found: dict[str, bytes]) -> Package:
@@ -245,8 +256,10 @@ def placed(its: dict[str, bytes]) -> dict[str, Entry]:
     lacking = [path for path in (UNIT, PAGE, *COMMANDS.values()) if path not in its]
     if lacking:
         raise Missing(f"git has no {' and no '.join(lacking)} in services/hub")
-    files = {"usr/bin/" + name: Entry(COMMAND.format(path=HUB + path).encode(), 0o755) for name, path in COMMANDS.items()}
-    return {**files, "lib/systemd/system/niluppang-hub@.service": Entry(its[UNIT]), MANUAL + "niluppang-hub.1.gz": Entry(packed(its[PAGE])),
+    files = {"usr/bin/" + name: Entry(COMMAND.format(path=HUB + path).encode(), 0o755)
+             for name, path in COMMANDS.items()}
+    return {**files, "lib/systemd/system/niluppang-hub@.service": Entry(its[UNIT]),
+            MANUAL + "niluppang-hub.1.gz": Entry(packed(its[PAGE])),
             MANUAL + "hubctl.1.gz": Entry(None, 0o777, "niluppang-hub.1.gz"), "etc/niluppang": Entry(None, 0o750)}
 
 
@@ -255,14 +268,17 @@ def hub(found: dict[str, bytes]) -> Package:
     files = placed(its)
     for path in set(its) - {UNIT, PAGE}:
         is_example = path.startswith("system/") or path == DASHBOARD
-        files[DOC + "niluppang-hub/examples/" + path.split("/")[-1] if is_example else HUB + path] = entry(path, its[path])
-    fields = control("niluppang-hub", "all", Depends=f"niluppang (= {REVISION}), python3-niluppang (= {REVISION}), python3 (>= 3.11), "
+        files[DOC + "niluppang-hub/examples/" + path.split("/")[-1] if is_example else HUB + path] = entry(path,
+                                                                                                           its[path])
+    fields = control("niluppang-hub", "all",
+                     Depends=f"niluppang (= {REVISION}), python3-niluppang (= {REVISION}), python3 (>= 3.11), "
                      f"{AIOHTTP}, adduser", Suggests="libnginx-mod-stream, openssl, prometheus")
     return Package(fields, files, {"postinst": HUB_POSTINST, "prerm": HUB_PRERM, "postrm": HUB_POSTRM}, OF_HUB)
 
 
 def packages(found: dict[str, bytes], time: int) -> Iterator[Package]:
-    """Each package, with the files that all of them have: the copyright, what changed, and the tags of lintian that are meant so."""
+    """Each package, with the files that all of them have: the copyright, what changed, and the tags of lintian that are
+    meant so."""
     copyright = COPYRIGHT.format(year=datetime.datetime.fromtimestamp(time, datetime.timezone.utc).year)
     news = NEWS.format(date=email.utils.formatdate(time))
     shared = {"copyright": copyright.encode(), "changelog.gz": packed(found[DOCUMENTS + "CHANGELOG.md"]),
@@ -299,7 +315,8 @@ def arred(members: dict[str, bytes], time: int) -> bytes:
     """An archive of ar. Each member begins at an even place."""
     parts = [b"!<arch>\n"]
     for name, data in members.items():
-        parts += [f"{name:<16}{time:<12}{0:<6}{0:<6}{100644:<8}{len(data):<10}`\n".encode(), data, b"\n" * (len(data) % 2)]
+        parts += [f"{name:<16}{time:<12}{0:<6}{0:<6}{100644:<8}{len(data):<10}`\n".encode(), data,
+                  b"\n" * (len(data) % 2)]
     return b"".join(parts)
 
 
@@ -313,17 +330,21 @@ def control_files(it: Package) -> dict[str, Entry]:
     fields = {"Installed-Size": str(size_of(it.files)), **it.fields}
     order = [*it.fields][:-1] + ["Installed-Size", "Description"]
     text = "".join(f"{key}: {fields[key]}\n" for key in order)
-    sums = "".join(f"{hashlib.md5(file.data).hexdigest()}  {path}\n" for path, file in sorted(it.files.items()) if file.data is not None)
+    sums = "".join(f"{hashlib.md5(file.data).hexdigest()}  {path}\n" for path, file in sorted(it.files.items())
+                   if file.data is not None)
     files = {"control": Entry(text.encode()), "md5sums": Entry(sums.encode())}
-    return {**files, **{name: Entry(text.encode(), 0o755 if text.startswith("#!") else 0o644) for name, text in it.control.items()}}
+    return {**files, **{name: Entry(text.encode(), 0o755 if text.startswith("#!") else 0o644)
+                        for name, text in it.control.items()}}
 
 
 def written(it: Package, time: int) -> bytes:
     """The bytes of a package."""
-    members = {"debian-binary": b"2.0\n", "control.tar.gz": tarred(control_files(it), time), "data.tar.gz": tarred(it.files, time)}
+    members = {"debian-binary": b"2.0\n", "control.tar.gz": tarred(control_files(it), time),
+               "data.tar.gz": tarred(it.files, time)}
     return arred(members, time)
 
 
 def made(found: dict[str, bytes], time: int) -> dict[str, bytes]:
     """The bytes of each package by the name of its file, of the files of the archive."""
-    return {f"{it.fields['Package']}_{REVISION}_{it.fields['Architecture']}.deb": written(it, time) for it in packages(found, time)}
+    return {f"{it.fields['Package']}_{REVISION}_{it.fields['Architecture']}.deb": written(it, time)
+            for it in packages(found, time)}

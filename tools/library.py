@@ -2,11 +2,11 @@
 
 Usage: python3 tools/library.py FOLDER
 
-The archive has one object: the library, and the code of the toolchain that calls malloc, realloc and free. So a program needs nothing
-but the C library. The shared library is made of it. Both give away `sct_version` and the names that begin with `sct_raw_`, and no
-other. In the shared library these names have the version of the interface, such as NILUPPANG_0.3. The same inputs make the same bytes.
-It needs gcc and binutils. `rt lib` makes the static library first, if it is not there or not of these sources
-(kept.py). The variable SCT_C names another one.
+The archive has one object: the library, and the code of the toolchain that calls malloc, realloc and free. So a program
+needs nothing but the C library. The shared library is made of it. Both give away `sct_version` and the names that begin
+with `sct_raw_`, and no other. In the shared library these names have the version of the interface, such as
+NILUPPANG_0.3. The same inputs make the same bytes. It needs gcc and binutils. `rt lib` makes the static library first,
+if it is not there or not of these sources (kept.py). The variable SCT_C names another one.
 """
 from __future__ import annotations
 import os
@@ -30,7 +30,8 @@ NEEDED = ["gcc", "ld", "objcopy", "ar"]
 
 def pkg_config(prefix: str, libraries: str) -> str:
     """What pkg-config reads of the library, for a prefix and the folder of libraries below it."""
-    lines = [f"prefix={prefix}", f"libdir=${{prefix}}/{libraries}", "includedir=${prefix}/include", "", "Name: niluppang",
+    lines = [f"prefix={prefix}", f"libdir=${{prefix}}/{libraries}",
+             "includedir=${prefix}/include", "", "Name: niluppang",
              "Description: The proved site of a clearing hub for SEPA Instant Credit Transfers", f"Version: {VERSION}",
              "Libs: -L${libdir} -lniluppang", "Cflags: -I${includedir}"]
     return "\n".join(lines) + "\n"
@@ -67,12 +68,18 @@ def allocation() -> Any:
     return path
 
 
-def check_there(proves: bool = True) -> Any:
-    """Fails with what is missing."""
+def parts(proves: bool = True) -> Any:
+    """The archives that the library is made of. Fails with what is missing."""
     for name in NEEDED:
         if shutil.which(name) is None:
             raise Missing(f"there is no command {name} on this machine: apt-get install gcc")
     return static_library(proves), allocation()
+
+
+def check_there(proves: bool = True) -> None:
+    """Fails with what is missing."""
+    with kept.alone():
+        parts(proves)
 
 
 def run(*words: Any, folder: Any) -> None:
@@ -81,11 +88,13 @@ def run(*words: Any, folder: Any) -> None:
 
 def make_archive(folder: str, proves: bool = True) -> Any:
     """Makes libniluppang.a in a folder."""
-    library, heap = check_there(proves)
-    with tempfile.TemporaryDirectory() as place:
-        run("ld", "-r", "-z", "noexecstack", "-o", "niluppang.o", "--whole-archive", library.resolve(), heap, folder=place)
+    with kept.alone(), tempfile.TemporaryDirectory() as place:
+        library, heap = parts(proves)
+        run("ld", "-r", "-z", "noexecstack", "-o", "niluppang.o", "--whole-archive", library.resolve(), heap,
+            folder=place)
         kept_names = [f"--keep-global-symbol={name}" for name in NAMES]
-        run("objcopy", "--enable-deterministic-archives", "--strip-debug", "--wildcard", *kept_names, "niluppang.o", folder=place)
+        run("objcopy", "--enable-deterministic-archives", "--strip-debug", "--wildcard", *kept_names, "niluppang.o",
+            folder=place)
         run("ar", "rcsD", "libniluppang.a", "niluppang.o", folder=place)
         shutil.copy(pathlib.Path(place, "libniluppang.a"), folder)
     return pathlib.Path(folder, "libniluppang.a")
@@ -96,8 +105,10 @@ def make_shared(folder: Any) -> Any:
     with tempfile.TemporaryDirectory() as place:
         exports = pathlib.Path(place, "exports")
         exports.write_text(EXPORTS)
-        run("gcc", "-shared", "-o", SONAME, f"-Wl,-soname,{SONAME}", f"-Wl,--version-script={exports}", "-Wl,-z,defs", "-Wl,-z,relro",
-            "-Wl,-z,now", "-Wl,-z,noexecstack", "-Wl,--whole-archive", "libniluppang.a", "-Wl,--no-whole-archive", folder=folder)
+        run("gcc", "-shared", "-o", SONAME, f"-Wl,-soname,{SONAME}", f"-Wl,--version-script={exports}",
+            "-Wl,-z,defs", "-Wl,-z,relro",
+            "-Wl,-z,now", "-Wl,-z,noexecstack", "-Wl,--whole-archive", "libniluppang.a", "-Wl,--no-whole-archive",
+            folder=folder)
     link = pathlib.Path(folder, "libniluppang.so")
     link.unlink(missing_ok=True)
     link.symlink_to(SONAME)

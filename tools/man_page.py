@@ -1,7 +1,8 @@
-"""man_page.py: makes the manual page sct_sites(1) of docs/users/codes.md, whose sections and tables it takes over in their order.
+"""man_page.py: makes the manual page sct_sites(1) of docs/users/codes.md, whose sections and tables it takes over in
+their order.
 
-A heading of two marks begins a section, one of three a part of it. A row of a table is an entry: its first cell or cells are
-what is printed, and the others follow with the names of their columns. Links are their words.
+A heading of two marks begins a section, one of three a part of it. A row of a table is an entry: its first cell or
+cells are what is printed, and the others follow with the names of their columns. Links are their words.
 
 Usage, at the top of the repository: python3 -m tools.man_page > sct_sites.1
 
@@ -35,6 +36,7 @@ sct_sites, niluppang \\- answers on the SEPA Instant messages of a clearing hub
 \\fBsct_sites run\\fR \\fIFILE\\fR ...
 \\fBsct_sites site\\fR \\fISITE SITES JOURNAL\\fR [\\fIDELTA\\fR ...]
 \\fBsct_sites vector\\fR \\fISITE SITES JOURNAL\\fR [\\fIDELTA\\fR ...]
+\\fBsct_sites digests\\fR \\fISITE SITES JOURNAL\\fR [\\fIDELTA\\fR ...]
 \\fBsct_sites cut\\fR \\fISITE SITES HAVE JOURNAL\\fR [\\fIDELTA\\fR ...]
 \\fBsct_sites serve\\fR \\fISITE SITES JOURNAL\\fR < \\fIREQUESTS\\fR
 .fi

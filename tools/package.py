@@ -2,13 +2,13 @@
 
 Usage: python3 tools/package.py [FOLDER]   (out)
 
-It makes FOLDER/niluppang-VERSION-x86_64-linux.tar.gz; FOLDER/niluppang.html, the page; the packages for Debian 12; a wheel for pip, with
-the Python package and the library (bindings.py); and FOLDER/SHA256SUMS, the sums of all of them, which is the list of the release. The
-archive has one folder of its name:
+It makes FOLDER/niluppang-VERSION-x86_64-linux.tar.gz; FOLDER/niluppang.html, the page; the packages for Debian 12; a
+wheel for pip, with the Python package and the library (bindings.py); and FOLDER/SHA256SUMS, the sums of all of them,
+which is the list of the release. The archive has one folder of its name:
 
     bin/sct_sites                    the program, and a link niluppang to it
     lib/, include/                   the libraries, the C header, and niluppang.pc for pkg-config
-    share/man/, share/doc/           the manual page, by both names; all pages and examples, as they are in the repository; and BUILD
+    share/man/, share/doc/           the manual page, by both names; all pages and examples of the repository; and BUILD
     share/niluppang/python/          the Python package
     share/niluppang/java/            the Java package, and niluppang.jar of it
     share/niluppang/services/        the sites of a hub as a service, and answers on parts of an input
@@ -18,17 +18,19 @@ archive has one folder of its name:
 
 The packages have the same files, at the places that Debian has for them (debian.py):
 
-    niluppang_VERSION-1_amd64.deb         the program, its manual page, the tools of the desk, the page, all pages and examples
+    niluppang_VERSION-1_amd64.deb         the program, its manual page, the tools of the desk, the page, pages, examples
     libniluppang0.3_VERSION-1_amd64.deb   the shared library
     libniluppang-dev_VERSION-1_amd64.deb  the C header, the library for static programs, and niluppang.pc
     python3-niluppang_VERSION-1_all.deb   the Python package
-    niluppang-hub_VERSION-1_all.deb       the sites of a hub as a service, with a unit of systemd and examples for operators
+    niluppang-hub_VERSION-1_all.deb       the sites of a hub as a service, with a unit of systemd, and examples
 
-There is no package for Java. On a machine without a JDK the archive is made without niluppang.jar: build.sh beside the sources makes it.
+There is no package for Java. On a machine without a JDK the archive is made without niluppang.jar: build.sh beside the
+sources makes it.
 
-BUILD says which version it is, of which commit, and the toolchain that proved it. The same commit and the same built files make the same
-bytes: times are those of the commit, and all is sorted. Run the gate before: the libraries and the page are made of what it proved, if
-they are not there. The variables SCT_SITES and SCT_C name another program and another static library.
+BUILD says which version it is, of which commit, and the toolchain that proved it. The same commit and the same built
+files make the same bytes: times are those of the commit, and all is sorted. Run the gate before: the libraries and the
+page are made of what it proved, if they are not there. The variables SCT_SITES and SCT_C name another program and
+another static library.
 """
 from __future__ import annotations
 import gzip
@@ -50,7 +52,8 @@ SUMS = "SHA256SUMS"
 PAGE, BUILD = "share/niluppang/" + page.PAGE.name, "share/doc/niluppang/BUILD"
 JAR = "share/niluppang/java/niluppang.jar"
 # links, each with the file beside it to which it leads
-LINKS = {"bin/niluppang": "sct_sites", "share/man/man1/niluppang.1": "sct_sites.1", "lib/libniluppang.so": library.SONAME}
+LINKS = {"bin/niluppang": "sct_sites", "share/man/man1/niluppang.1": "sct_sites.1",
+         "lib/libniluppang.so": library.SONAME}
 PAGES = ["README.md", "NOTICE", "CHANGELOG.md", "CONTRIBUTING.md", "SECURITY.md"]
 PYTHON = ["pyproject.toml", "README.md"]
 LEFT_OUT = ("target", "__pycache__", ".gitignore", "Cargo.lock")
@@ -137,7 +140,8 @@ def built(folder: Any) -> Any:
 def files(built_ones: dict[str, bytes]) -> dict[str, bytes]:
     """The path of each file in the archive, with its bytes: of those that are built, and of those of the repository."""
     doc, python = "share/doc/niluppang/", "share/niluppang/python/"
-    found = {**built_ones, "include/niluppang.h": read("include/niluppang.h"), "lib/pkgconfig/niluppang.pc": PKG_CONFIG.encode(),
+    found = {**built_ones, "include/niluppang.h": read("include/niluppang.h"),
+             "lib/pkgconfig/niluppang.pc": PKG_CONFIG.encode(),
              "share/man/man1/sct_sites.1": man_page.made().encode(), doc + "VERSION": read("VERSION")}
     for path in [*PAGES, *below("docs")]:
         found[doc + path] = read(path)
@@ -171,7 +175,8 @@ def put(tar: tarfile.TarFile, found: dict[str, bytes], time: int) -> None:
     folders = {str(folder) for path in found for folder in pathlib.PurePosixPath(path).parents}
     for path in sorted({*found, *folders, *LINKS}):
         info = entry("" if path == "." else path, time)
-        info.mode = 0o755 if path in folders or path == "bin/sct_sites" or ".so" in path or path.endswith(".sh") else 0o644
+        info.mode = 0o755 if path in folders or path == "bin/sct_sites" or ".so" in path or path.endswith(
+            ".sh") else 0o644
         if path in folders:
             info.type = tarfile.DIRTYPE
             tar.addfile(info)
@@ -186,7 +191,8 @@ def put(tar: tarfile.TarFile, found: dict[str, bytes], time: int) -> None:
 def archive(found: dict[str, bytes], time: int) -> bytes:
     """The bytes of the archive."""
     file = io.BytesIO()
-    with gzip.GzipFile("", "wb", 9, file, mtime=time) as packed, tarfile.open(fileobj=cast(IO[bytes], packed), mode="w", format=tarfile.GNU_FORMAT) as tar:
+    with gzip.GzipFile("", "wb", 9, file, mtime=time) as packed, tarfile.open(fileobj=cast(IO[bytes], packed), mode="w",
+                                                                              format=tarfile.GNU_FORMAT) as tar:
         put(tar, found, time)
     return file.getvalue()
 

@@ -1,6 +1,7 @@
 """page.py: has web/build make the page of what `rt ci` proved on this machine.
 
-It proves sct_c alone, in some minutes. If a library below it is not kept, it makes nothing, since to prove all anew takes an hour.
+It proves sct_c alone, in some minutes. If a library below it is not kept, it makes nothing, since to prove all anew
+takes an hour.
 """
 from __future__ import annotations
 import subprocess

@@ -10,6 +10,11 @@ class Changed extends Error {
   constructor(which) { super("changed"); this.which = which; }
 }
 
+// A list with something wrong: what it is.
+class WrongList extends Error {
+  constructor(faults) { super("list"); this.faults = faults.slice(0, MOST_ROWS); this.many = faults.length; }
+}
+
 // A file that is of another kind than messages or a list.
 class Kind extends Error {
   constructor(kind, file) { super(kind); this.kind = kind; this.file = file; }
@@ -103,18 +108,19 @@ class Site {
 // ---- the reading of files
 
 // How files begin that are neither messages nor a list. XML and UTF-16 are others: kind_of has them.
-const BEGINNINGS = { gzip: [0x1f, 0x8b], zip: [0x50, 0x4b, 3, 4], xml: [0xff, 0xfe, LESS, 0] };
+const BEGINNINGS = { gzip: [0x1f, 0x8b], zip: [0x50, 0x4b, 3, 4], workbook: [0xd0, 0xcf, 0x11, 0xe0], pdf: [0x25, 0x50, 0x44, 0x46], xml: [0xff, 0xfe, LESS, 0] };
 const HEAD = 4096; // bytes of a file that show what it is
 
 // What a file is that is neither messages nor a list, by its first bytes, or nothing.
 function kind_of(head, which) {
   for (const [kind, beginning] of Object.entries(BEGINNINGS)) if (begins_with(head, beginning)) return kind;
   const text = begins_with(head, MARK) ? head.subarray(MARK.length) : head;
-  if (text.find((byte) => !BLANKS.includes(byte)) === LESS) return "xml";
+  if (which === "messages" && is_list(head)) return "list";
+  if (which === "messages" && text.find((byte) => !BLANKS.includes(byte)) === LESS) return "xml";
   return which === "messages" && (begins_with(head, [0xff, 0xfe]) || begins_with(head, [0xfe, 0xff])) ? "utf16" : undefined;
 }
 
-// Stops at a file that is compressed, a workbook, XML, or messages in UTF-16.
+// Stops at a file that is compressed, a workbook, XML, a list in place of messages, or messages in UTF-16.
 async function check_kind(file, which) {
   const head = await file.slice(0, HEAD).arrayBuffer().catch(() => { throw new Changed(which); });
   const kind = kind_of(new Uint8Array(head), which);
@@ -304,11 +310,13 @@ function sought_in(search) {
   return [search.toLowerCase(), search.toLowerCase().replace(/\s/g, "")];
 }
 
-// What a message says of each of its transfers: amounts, accounts and the end-to-end identification, each between tabs.
+// What a message says of each of its transfers: amounts, accounts, names, the remittance information and the end-to-end identification, each
+// between tabs.
 function* entries_of(message) {
   for (const part of message.TxInf ?? [message]) {
-    const found = [part.IntrBkSttlmAmt, part.OrgnlIntrBkSttlmAmt, part.RtrdIntrBkSttlmAmt, part.DbtrAcct, part.CdtrAcct, part.EndToEndId, part.OrgnlEndToEndId];
-    const terms = [...new Set(found.filter(Boolean))];
+    const found = [part.IntrBkSttlmAmt, part.OrgnlIntrBkSttlmAmt, part.RtrdIntrBkSttlmAmt, part.DbtrAcct, part.CdtrAcct, part.EndToEndId, part.OrgnlEndToEndId,
+      part.Dbtr, part.Cdtr, part.Ustrd];
+    const terms = [...new Set(found.filter(Boolean).map((text) => text.replace(/[\t\n]/g, " ")))];
     if (terms.length) yield `${part.DbtrAgt}|${part.TxId ?? part.OrgnlTxId}\t${terms.join("\t")}\t\n`;
   }
 }
@@ -353,6 +361,22 @@ function searched(table, search) {
 function with_text([number, ...code]) {
   const { name, feeds } = lines.files.findLast((file) => file.feeds < Number(number)) ?? lines.files[0];
   return [number, ...code, name, String(number - feeds), lines.texts.get(Number(number)) ?? ""];
+}
+
+// What a clerk knows a transfer by: its day, its amount, who pays, who is paid and the end-to-end identification. They are those of its first
+// instruction, or what its other messages say of them.
+function known_of(bank, transfer) {
+  const messages = lines_on("messages_text", bank, transfer).map((line) => JSON.parse(line));
+  const parts = messages.map((message) => (message.TxInf ?? [message]).find((part) => part.DbtrAgt === bank && (part.TxId ?? part.OrgnlTxId) === transfer) ?? {});
+  const order = parts.find((part) => part.TxId) ?? {}, first = (name) => parts.find((part) => part[name])?.[name] ?? "";
+  return { day: order.IntrBkSttlmDt ?? first("OrgnlIntrBkSttlmDt"), amount: order.IntrBkSttlmAmt ?? first("OrgnlIntrBkSttlmAmt"), payer: order.Dbtr ?? "",
+    payee: order.Cdtr ?? "", identification: order.EndToEndId ?? first("OrgnlEndToEndId") };
+}
+
+// Some rows of a table, with what a clerk knows their transfers by.
+function known_rows(asked) {
+  const answer = rows_of(asked);
+  return { ...answer, known: NAMED.includes(asked.table) ? answer.rows.map(([bank, transfer]) => known_of(bank, transfer)) : [] };
 }
 
 // Some rows of a table: those that have the search text, of that bank, with one of those words.
@@ -408,6 +432,7 @@ function report_of(bank, day, bytes) {
   } catch (error) {
     if (error.code !== BAD_LIST) throw error;
     const plain = plain_list(bytes);
+    if (plain.faults.length) throw new WrongList(plain.faults);
     return { text: asked(plain.bytes), list: plain.bytes, read: plain.read };
   }
 }
@@ -454,6 +479,7 @@ const ASKED = {
     return { ...answer, found: count("report") };
   },
   rows: rows_of,
+  known: known_rows,
   messages,
   text({ name }) { return { blob: new Blob(name === "archive" ? [site.asked("archive_text")] : texts[name]) }; },
 };
@@ -461,6 +487,7 @@ const ASKED = {
 // A fault as the page reads it.
 function fault_of(error) {
   if (error instanceof Fault) return { code: error.code, place: error.place };
+  if (error instanceof WrongList) return { code: BAD_LIST, place: 0, faults: error.faults, many: error.many };
   if (error instanceof RangeError) return { code: MEMORY, place: 0 };
   return { code: 0, place: 0, text: String(error.message), changed: error.which, kind: error.kind, file: error.file };
 }

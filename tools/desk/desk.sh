@@ -13,8 +13,9 @@
 #                                         and below it the name of the fault and what to do about it (explain.py)
 #   day.counts                            how many T, F and R lines have which status or finding
 #
-# With --report it prints the report on the list of a bank, by the archive of a folder that it made. Before that it checks the
-# list (check_list.py). If a row is a transfer of other banks, there is no report, and the exit status is 2.
+# With --report it prints the report on the list of a bank, by the archive of a folder that it made. If the program does not take the list,
+# it is read as a spreadsheet saves it, or standard error says what is wrong with each row (list_from_csv.py). Before the report the list is
+# checked (check_list.py). If a row is a transfer of other banks, there is no report, and the exit status is 2.
 #
 # With --keep it splits the archive of a folder that it made, by `keep` and `closed` of the program. The folder gets kept.archive, with
 # which the next day begins, and closed.archive, with what is done before DAY. After another exit status than 0 it gets neither.
@@ -53,8 +54,20 @@ answered() {
 # The report on a list, if nothing speaks against it.
 report() {
     [ -r "$4/day.archive" ] || stop "$4 is not a folder of desk.sh"
-    python3 "$here/check_list.py" "$1" "$2" "$3" "$4/day.archive" || stop "there is no report on $3"
-    "$program" report -- "$1" "$2" "$3" < "$4/day.archive"
+    [ -r "$3" ] || stop "there is no file $3 that can be read"
+    work=$(mktemp -d) || exit 2
+    trap 'rm -rf "$work"' EXIT
+    trap 'exit 2' HUP INT TERM
+    cat "$3" > "$work/list" || exit 2
+    "$program" report -- "$1" "$2" "$work/list" < /dev/null > "$work/none" 2> "$work/fault"
+    case "$(cat "$work/fault")" in
+        "fault 48 "*)
+            python3 "$here/list_from_csv.py" < "$work/list" > "$work/read" || stop "there is no report on $3"
+            mv "$work/read" "$work/list" || exit 2
+            warn "$3 was read as a spreadsheet saves a list";;
+    esac
+    python3 "$here/check_list.py" "$1" "$2" "$work/list" "$4/day.archive" || stop "there is no report on $3"
+    "$program" report -- "$1" "$2" "$work/list" < "$4/day.archive"
     exit $?
 }
 

@@ -1,9 +1,10 @@
 """explain.py: prints lines of sct_sites again, and below each that has a code what the code is and what to do about it.
 
-It knows refused lines and deltas (`line 8: 31`), also as day.explained has them, faults (`fault 62`), lines of a status text,
-outcomes of a replay that are refused, and rows of a report. Of a line that is no JSON (31) it says why, if its text follows as in
-day.explained. Other lines are printed as they are. Names and remedies are those of the tables of codes.md, which is looked for beside
-this script, and then in the folder docs of its repository.
+It knows refused lines and deltas (`line 8: 31`), also as day.explained has them, faults (`fault 62`), lines of a status
+text, outcomes of a replay that are refused, and rows of a report. Of a line that is no JSON (31) it says why, if its
+text follows as in day.explained. Of a reason, such as AC06, it says the meaning, which is that of reasons.json. Other
+lines are printed as they are. Names and remedies are those of the tables of codes.md, which is looked for beside this
+script, and then in the folder docs of its repository.
 
 Usage: explain.py [FILE..]   (without FILE it reads standard input)
 """
@@ -19,13 +20,16 @@ HERE = pathlib.Path(__file__).resolve().parent
 FAULTS, OUTCOMES, RESULTS, CAUSES = "Faults", "Outcomes of a replay", "Results of a report", "Causes of 31"
 # the sections on the lines of a status text, by the letter of the line and the field that has the word
 STATUSES = {"T": ("Statuses of a transfer", 3), "F": ("Findings", 3), "R": ("Statuses of a recall", 4)}
-# a number of a refused line, after the place of a transaction if it has one; for 36 and 38 the number at the end says more
+REASONED = {"REJECTED", "REFUSED"}  # the statuses that a reason follows
+# a number of a refused line, after the place of a transaction if it has one; for 36 and 38 the number at the end says
+# more
 REFUSAL = re.compile(r"(?:line \d+|file \d+(?: line \d+)?|.+?:\d+): (?:(56) \d+ )?(?:36 \w+ (\d+)|38 (\d+)|(\d\d))\b")
 FAULT = re.compile(r"fault (\d+)(?: (\d+))?")
 RESULT = re.compile(r'[A-Z0-9]{11},(?:[^",]+|"[^"]+"),([A-Z_]+),')  # the first three fields of a row of a report
 NOT_JSON = "31"
 # causes of 31 by how a line begins, as the page has them
-BEGINNINGS = [(b"\xef\xbb\xbf", "a byte order mark is before it"), (b"\xff\xfe", "it is UTF-16"), (b"\xfe\xff", "it is UTF-16"),
+BEGINNINGS = [(b"\xef\xbb\xbf", "a byte order mark is before it"), (b"\xff\xfe", "it is UTF-16"),
+              (b"\xfe\xff", "it is UTF-16"),
               (b"\x1f\x8b", "it is compressed"), (b"PK\3\4", "it is compressed"), (b"BZh", "it is compressed"),
               (b"\xfd7zXZ\0", "it is compressed"), (b"\x28\xb5\x2f\xfd", "it is compressed"), (b"<", "it is XML")]
 PIECE = "it is a piece of a message over several lines"
@@ -112,8 +116,8 @@ class Codes:
     """The numbers and words of the page."""
     numbers: dict[str, dict[str, str]]
 
-    def __init__(self, text: str) -> None:
-        self.sections = tables(text)
+    def __init__(self, text: str, reasons: dict[str, dict[str, str]]) -> None:
+        self.sections, self.reasons = tables(text), reasons
         self.numbers = {}
         for rows in self.sections.values():  # a number of a refused line comes before the same number of a fault
             self.numbers = {**{number: row for number, row in rows.items() if "Number" in row}, **self.numbers}
@@ -126,12 +130,17 @@ class Codes:
         row, cause = self.numbers[NOT_JSON], self.row(CAUSES, cause_of(line))
         return cause and {"Name": f"{row['Name']}, {cause['Cause of 31']}", "Remedy": cause["Remedy"]} or row
 
+    def reason(self, fields: list[str]) -> list[dict[str, str]]:
+        """What the reason after a status means, if it is a known one."""
+        code = fields[1].rstrip("?") if len(fields) > 1 and fields[0] in REASONED else ""
+        return [{"Name": code, "Remedy": self.reasons[code]["en"]}] if code in self.reasons else []
+
     def of_answer(self, line: str) -> list[dict[str, str] | None]:
         """The rows on a line of a status text, of a replay or of a report."""
         fields = line.split("|")
         if fields[0] in STATUSES:
             section, place = STATUSES[fields[0]]
-            return [self.row(section, fields[place])] if len(fields) > place else []
+            return [self.row(section, fields[place]), *self.reason(fields[place:])] if len(fields) > place else []
         if fields[0] == "E" and fields[2:3] == ["REFUSED"]:
             return [self.row(OUTCOMES, " ".join(fields[2:4]))]
         result = RESULT.match(line)
@@ -157,7 +166,7 @@ def main() -> None:
     if sys.argv[1:] in (["-h"], ["--help"]):
         print(__doc__.strip())
         return
-    codes = Codes(page())
+    codes = Codes(page(), json.loads((HERE / "reasons.json").read_text(encoding="utf-8")))
     for file in sys.argv[1:] or [""]:
         try:
             stream = open(file, "rb") if file else sys.stdin.buffer

@@ -1,4 +1,5 @@
-"""fields.py: what the tools of the desk know of fields that somebody types or lists. docs/users/formats.md, section 3, has the types."""
+"""fields.py: what the tools of the desk know of fields that somebody types or lists. docs/users/formats.md, section 3,
+has the types."""
 from __future__ import annotations
 import datetime
 import re

@@ -1,5 +1,5 @@
-"""page_tables.py: reads the tables of a page in Markdown, such as those of docs/users/codes.md. explain.py, the manual page, the page for
-browsers and the checks of pages use it."""
+"""page_tables.py: reads the tables of a page in Markdown, such as those of docs/users/codes.md. explain.py, the manual
+page, the page for browsers and the checks of pages use it."""
 from __future__ import annotations
 import re
 from typing import Any, Iterator, NamedTuple

@@ -1,23 +1,3 @@
--- find: transfers by a TxId, an EndToEndId, an IBAN or an amount, of any bank; the oldest first
-WITH asked AS (
-    SELECT trim(:what) AS name, upper(replace(:what, ' ', '')) AS iban, replace(trim(:what), ',', '.') AS amount),
-wanted AS (
-    SELECT name, iban, CASE WHEN amount GLOB '[0-9]*' AND amount NOT GLOB '*[^0-9.]*' AND amount NOT GLOB '*.*.*'
-        AND amount NOT GLOB '*.???*' THEN CAST(round(100 * amount) AS INTEGER) END AS cents FROM asked),
-found AS (
-    SELECT bank, transfer_id FROM wanted JOIN message ON transfer_id = name
-    UNION SELECT bank, transfer_id FROM wanted JOIN message ON end_to_end = name
-    UNION SELECT bank, transfer_id FROM wanted JOIN message ON debtor_iban = iban
-    UNION SELECT bank, transfer_id FROM wanted JOIN message ON creditor_iban = iban
-    UNION SELECT bank, transfer_id FROM wanted JOIN message USING (cents)
-    UNION SELECT bank, transfer_id FROM wanted JOIN message ON returned_cents = wanted.cents)
-SELECT message.created, found.bank, found.transfer_id, transfer.status,
-    CASE WHEN cents IS NOT NULL THEN printf('%d.%02d', cents / 100, cents % 100) END AS amount,
-    message.end_to_end, message.debtor_iban, message.creditor_iban, message.beneficiary_bank
-FROM found JOIN transfer USING (bank, transfer_id)
-    LEFT JOIN message ON message.bank = found.bank AND message.transfer_id = found.transfer_id AND message.kind = 'pacs.008'
-ORDER BY datetime(message.created), found.bank, found.transfer_id, message.message_id;
-
 -- history: all messages on one transfer, in the order of the times that their senders wrote
 SELECT created, kind, sender, message_id, recall_id, word, reason,
     CASE WHEN cents IS NOT NULL THEN printf('%d.%02d', cents / 100, cents % 100) END AS amount
