@@ -1,10 +1,10 @@
 """batches.py: what batches cost the processor, on small and on large views.
 
-It hands lines to the test driver, and reads from /proc how much processor time the process took for each part of them. So other work
-of the machine matters little. Batches of ten fresh messages go to a view of 2,000 to 3,000 messages (begun anew each time) and to one
-of 200,000 and more, in turn. A part of 100 batches has its 1,000 lines read too; what as many cost that go into one batch is taken off.
-The medians are printed. The same 200,000 messages then go one by one, in batches of ten, and in one batch, each in a process of its own,
-with reading.
+It hands lines to the test driver, and reads from /proc how much processor time the process took for each part of them.
+So other work of the machine matters little. Batches of ten fresh messages go to a view of 2,000 to 3,000 messages
+(begun anew each time) and to one of 200,000 and more, in turn. A part of 100 batches has its 1,000 lines read too; what
+as many cost that go into one batch is taken off. The medians are printed. The same 200,000 messages then go one by one,
+in batches of ten, and in one batch, each in a process of its own, with reading.
 
 Usage: bench/batches.py [PARTS]   (40; the large view grows by 2,000 messages in each)
 """
@@ -30,7 +30,8 @@ class Trial:
     def __init__(self):
         end, self.pipe = os.pipe()
         fcntl.fcntl(self.pipe, SET_PIPE_SIZE, 1 << 20)
-        self.process = subprocess.Popen([harness.program("sct_test_driver"), "views"], stdin=end, stdout=subprocess.DEVNULL)
+        self.process = subprocess.Popen([harness.program("sct_test_driver"), "views"], stdin=end,
+                                        stdout=subprocess.DEVNULL)
         os.close(end)
 
     def spent(self):
@@ -40,7 +41,8 @@ class Trial:
     def is_waiting(self):
         """Whether the process took all that was written, and waits for more."""
         left = struct.unpack("i", fcntl.ioctl(self.pipe, termios.FIONREAD, bytes(4)))[0]
-        return left == 0 and pathlib.Path(f"/proc/{self.process.pid}/stat").read_text().rpartition(")")[2].split()[0] == "S"
+        return left == 0 and pathlib.Path(f"/proc/{self.process.pid}/stat").read_text().rpartition(")")[2].split()[
+            0] == "S"
 
     def settled(self):
         """What it took, once it waits for more."""
@@ -90,7 +92,8 @@ def main():
     on_small.end()
     on_large.end()
     of_small, of_large = statistics.median(small), statistics.median(large)
-    print(f"ten messages: {of_small:.1f} us on {SMALL} messages, {of_large:.1f} us on {LARGE}, {of_large / of_small:.2f} times", flush=True)
+    print(f"ten messages: {of_small:.1f} us on {SMALL} messages, {of_large:.1f} us on {LARGE}, "
+          f"{of_large / of_small:.2f} times", flush=True)
     for name, size in [("one by one", 1), ("in tens", 10), ("in one batch", LARGE)]:
         trial = Trial()
         print(f"{LARGE} messages {name}: {trial.take(batches(lines[:LARGE], size)) / 1e6:.2f} s", flush=True)

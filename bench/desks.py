@@ -1,8 +1,9 @@
 """desks.py: how long takes and answers last at a desk that two threads share.
 
-In the test driver one thread takes messages, each of a transfer of its own. Another asks for the last of them meanwhile, and as often
-again once all are taken. The script prints the median time of a take for each tenth of the messages, and of an answer while messages
-are taken and afterwards. Of each it prints the least median of the runs, since other work of the machine only adds to it.
+In the test driver one thread takes messages, each of a transfer of its own. Another asks for the last of them
+meanwhile, and as often again once all are taken. The script prints the median time of a take for each tenth of the
+messages, and of an answer while messages are taken and afterwards. Of each it prints the least median of the runs,
+since other work of the machine only adds to it.
 
 Usage: bench/desks.py [MESSAGES [RUNS]]   (20000, 5)
 """
@@ -19,7 +20,8 @@ PARTS = 10
 
 def times(many):
     """The nanoseconds that each take and each answer lasted, by the word before them."""
-    done = subprocess.run([harness.program("sct_test_driver"), "times", str(many)], capture_output=True, text=True, check=True)
+    done = subprocess.run([harness.program("sct_test_driver"), "times", str(many)], capture_output=True, text=True,
+                          check=True)
     found = collections.defaultdict(list)
     for line in done.stdout.splitlines():
         word, time = line.split()

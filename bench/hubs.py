@@ -1,11 +1,16 @@
-"""bench/hubs.py [--messages N] [--large N]: measures sites of services/hub on this machine, clients and all.
+"""bench/hubs.py [--messages N] [--large N] [--acknowledge N]: measures sites of services/hub on this machine, clients
+and all.
 
-- messages a second that are acknowledged at one site, and at three sites that exchange, for posts of 1, 10 and 100 messages by 4 clients: one
-  after the other without TLS and roles, with both by an operator, and with both by a bank, whose lines the library reads first;
+- messages a second that are acknowledged at one site, and at three sites that exchange, for posts of 1, 10 and 100
+messages by 4 clients: one
+  after the other without TLS and roles, with both by an operator, and with both by a bank, whose lines the library
+  reads first;
 - how long it takes until a peer shows a message: the median and the 99th of 100, without load and under load;
 - a site with a journal of a million messages: its start, its memory, and its first answer.
 
-With 0 messages, or a journal of 0, that part is left out. The program is that of the gate, or the one that SCT_SITES names.
+With --acknowledge the rates of three sites without TLS are measured alone, first as usual and then with posts that N
+peers hold when they are answered. With 0 messages, or a journal of 0, that part is left out. The program is that of the
+gate, or the one that SCT_SITES names.
 """
 import argparse
 import contextlib
@@ -25,7 +30,8 @@ from tests import harness, inputs
 from tests.hub import secure, sites
 
 CLIENTS, SAMPLES = 4, 300
-ROLES = {"operator": ["operator", "desk"], "bank": ["bank BANKDEFF"], **{f"site{number}": [f"peer {number}"] for number in range(1, 4)}}
+ROLES = {"operator": ["operator", "desk"], "bank": ["bank BANKDEFF"],
+         **{f"site{number}": [f"peer {number}"] for number in range(1, 4)}}
 WAYS = {None: "without TLS and roles", "operator": "with TLS, by an operator", "bank": "with TLS, by a bank"}
 
 
@@ -48,9 +54,11 @@ def posted(port, posts, made=None, who=None):
 
 
 def rate(ports, lines, size, made=None, who=None):
-    """Messages a second that clients have acknowledged, which post to sites in turn, and the seconds until all sites hold all."""
+    """Messages a second that clients have acknowledged, which post to sites in turn, and the seconds until all sites
+    hold all."""
     shares = [lines[client::CLIENTS] for client in range(CLIENTS)]
-    work = [(ports[client % len(ports)], [b"".join(share[at:at + size]) for at in range(0, len(share), size)], made, who)
+    work = [(ports[client % len(ports)],
+             [b"".join(share[at:at + size]) for at in range(0, len(share), size)], made, who)
             for client, share in enumerate(shares)]
     clients = [multiprocessing.Process(target=posted, args=one) for one in work]
     began = time.monotonic()
@@ -59,7 +67,8 @@ def rate(ports, lines, size, made=None, who=None):
     for client in clients:
         client.join()
     ended = time.monotonic()
-    asked = (lambda port: made.asked(port, "/vector", who="operator")) if who else lambda port: sites.asked(port, "/vector")
+    asked = (lambda port: made.asked(port, "/vector", who="operator")) if who else lambda port: sites.asked(port,
+                                                                                                            "/vector")
     sites.until(lambda: len({asked(port).body for port in ports}) == 1, 120)
     return len(lines) / (ended - began), time.monotonic() - ended
 
@@ -79,7 +88,8 @@ def seen_after(port, peer, number):
 def delays(port, peer, first):
     """The median and the 99th of 100, in milliseconds, until a peer shows a message, and until it is acknowledged."""
     both = [seen_after(port, peer, first + number) for number in range(SAMPLES) if not time.sleep(0.01)]
-    return [f"{statistics.median(one) * 1000:.1f} {statistics.quantiles(one, n=100)[98] * 1000:.1f}" for one in zip(*both)]
+    return [f"{statistics.median(one) * 1000:.1f} {statistics.quantiles(one, n=100)[98] * 1000:.1f}"
+            for one in zip(*both)]
 
 
 def memory(process):
@@ -89,13 +99,14 @@ def memory(process):
 
 
 @contextlib.contextmanager
-def hub_of(python, program, running, who, library):
-    """A hub of some sites: its ports, and its certificates if it has TLS."""
+def hub_of(python, program, running, who, library, *more):
+    """A hub of some sites, which words may say more of: its ports, and its certificates if it has TLS."""
     port = sites.free_ports(3)
     with tempfile.TemporaryDirectory() as folder:
         data, made = pathlib.Path(folder, "hub"), secure.Secured(f"{folder}/secured", ROLES) if who else None
         config = made.configured(data, list(range(1, running + 1)), port) if who else None
-        words = [] if who else [f"--port={port}", "--group=64", f"--sites={','.join(map(str, range(1, running + 1)))}"]
+        words = [] if who else [f"--port={port}", "--group=64", f"--sites={','.join(map(str, range(1, running + 1)))}",
+                                *more]
         with sites.Hub(python, program, data, *words, config=config, NILUPPANG_LIBRARY=library):
             ports = [port + site for site in range(running)]
             sites.until(lambda: all(made.is_well(one) if who else sites.is_well(one) for one in ports))
@@ -110,8 +121,18 @@ def rates(python, program, many, library):
             with hub_of(python, program, running, who, library) as (ports, made):
                 its = lines[:min(many // share, 20_000) if who == "bank" else many // share]
                 a_second, rest = rate(ports, its, size, made, who)
-                print(f"{running} sites, posts of {size}, {way}: {a_second:.0f} messages a second acknowledged; all sites equal {rest:.2f} s after"
-                      " the last", flush=True)
+                print(f"{running} sites, posts of {size}, {way}: {a_second:.0f} messages a second acknowledged; all "
+                      f"sites equal {rest:.2f} s after the last", flush=True)
+
+
+def acknowledged(python, program, many, peers):
+    """The rates of three sites whose posts are answered at once, and after some peers hold them, in turn."""
+    lines = [inputs.instruction(number).encode() for number in range(many)]
+    for (size, share), more in itertools.product(((1, 20), (10, 4), (100, 1)), (0, peers)):
+        with hub_of(python, program, 3, None, "", f"--acknowledge={more}") as (ports, _):
+            a_second, rest = rate(ports, lines[:many // share], size)
+            print(f"3 sites, posts of {size}, held by {more} peers: {a_second:.0f} messages a second acknowledged; "
+                  f"all sites equal {rest:.2f} s after the last", flush=True)
 
 
 def shown(python, program, many):
@@ -125,7 +146,8 @@ def shown(python, program, many):
         seen, acknowledged = delays(*ports[:2], 2 * 10 ** 6)
         ends.set()
         load.join()
-        print(f"a peer shows a message, under a load of {LOAD} messages a second: {seen}; acknowledged after {acknowledged}", flush=True)
+        print(f"a peer shows a message, under a load of {LOAD} messages a second: {seen}; acknowledged after "
+              f"{acknowledged}", flush=True)
 
 
 LOAD = 1000
@@ -162,8 +184,9 @@ def large_site(hub, port, many):
     first = time.monotonic() - began
     began = time.monotonic()
     sites.asked(port, "/transfers/BANKDEFF/T1", timeout=300)
-    print(f"a site with a journal of {many}: starts in {started:.1f} s, has {before:.0f} MB; its first answer takes {first:.1f} s, and then"
-          f" {1000 * (time.monotonic() - began):.1f} ms; it has {memory(hub.process.pid):.0f} MB", flush=True)
+    print(f"a site with a journal of {many}: starts in {started:.1f} s, has {before:.0f} MB; its first "
+          f"answer takes {first:.1f} s, and then {1000 * (time.monotonic() - began):.1f} ms; it has "
+          f"{memory(hub.process.pid):.0f} MB", flush=True)
 
 
 def large(python, program, many):
@@ -179,9 +202,12 @@ def main():
     it = argparse.ArgumentParser(description=__doc__, formatter_class=argparse.RawDescriptionHelpFormatter)
     it.add_argument("--messages", type=int, default=40_000)
     it.add_argument("--large", type=int, default=1_000_000)
+    it.add_argument("--acknowledge", type=int, help="measure posts that so many peers hold, beside others")
     asked = it.parse_args()
     python, program = sites.interpreter(), harness.program()
     print("load averages of the machine before:", *os.getloadavg(), flush=True)
+    if asked.acknowledge:
+        return acknowledged(python, program, asked.messages, asked.acknowledge)
     if asked.messages:
         with sites.library() as library:
             rates(python, program, asked.messages, library)

@@ -1,8 +1,9 @@
-"""bench/page.py PAGE FILE [LIST BANK DAY]: measures the page PAGE in Chromium on a file of messages, and on a report if a list is named.
+"""bench/page.py PAGE FILE [LIST BANK DAY]: measures the page PAGE in Chromium on a file of messages, and on a report if
+a list is named.
 
-A line for each of the two has the seconds until the page shows the answer, the processor seconds of all processes of the browser since it
-began, the most memory that the process of the page had, and the memory of the module after it read the file. The last line has the sums
-of the texts, to be compared with the program's or with another page's.
+A line for each of the two has the seconds until the page shows the answer, the processor seconds of all processes of
+the browser since it began, the most memory that the process of the page had, and the memory of the module after it read
+the file. The last line has the sums of the texts, to be compared with the program's or with another page's.
 """
 import pathlib
 import sys
@@ -35,7 +36,8 @@ def processes(first):
 
 
 def used(browser):
-    """The processor seconds of all processes of the browser, and the most memory that one of the kind of the page had."""
+    """The processor seconds of all processes of the browser, and the most memory that one of the kind of the page
+    had."""
     seconds = most = 0
     for number in processes(browser.process.pid):
         folder = pathlib.Path(f"/proc/{number}")
@@ -54,7 +56,8 @@ def said(browser, name, began):
     """Prints what was measured since the beginning of a step."""
     seconds, most = used(browser)
     module = browser.value("window.module_memory") or 0
-    print(f"{name}: {time.monotonic() - began:.1f} s, processor {seconds:.1f} s, memory {most / 1e9:.2f} GB, module {module / 1e9:.2f} GB, "
+    print(f"{name}: {time.monotonic() - began:.1f} s, processor {seconds:.1f} s, memory {most / 1e9:.2f} GB, "
+          f"module {module / 1e9:.2f} GB, "
           f"{browser.value('at(`fault`).textContent') or browser.value('at(`state`).textContent')}", flush=True)
 
 

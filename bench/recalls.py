@@ -1,8 +1,9 @@
 """recalls.py: what recalls of many transactions cost the processor, beside as many transactions in recalls of one.
 
-Both inputs come from bench/generate/recalls.py. The test driver reads the lines, applies them in one batch, and then reads and applies
-them in batches of 1,000 transactions. The program answers `status` and `archive` for them. The script prints the processor time of
-each step in seconds, and divides that of the recalls of many by that of the recalls of one.
+Both inputs come from bench/generate/recalls.py. The test driver reads the lines, applies them in one batch, and then
+reads and applies them in batches of 1,000 transactions. The program answers `status` and `archive` for them. The script
+prints the processor time of each step in seconds, and divides that of the recalls of many by that of the recalls of
+one.
 
 Usage: bench/recalls.py [RECALLS [TRANSACTIONS]]   (10000, 100; these need some 4 GB of memory)
 """
@@ -19,7 +20,8 @@ BATCH = 1_000
 
 
 def applied(lines, size):
-    """The seconds that it takes to read the lines, to apply them in one batch, and to do both in batches of this size."""
+    """The seconds that it takes to read the lines, to apply them in one batch, and to do both in batches of this
+    size."""
     trial = Trial()
     times = {"read": trial.take(lines), "applied": trial.take([""])}
     trial.take(["new"])
@@ -43,7 +45,8 @@ def measured(many, transactions):
     with tempfile.TemporaryDirectory() as folder:
         path = pathlib.Path(folder, "recalls.jsonl")
         path.write_text("\n".join(lines))
-        times = {**applied(lines, max(1, BATCH // transactions)), **{command: spent(command, path) for command in COMMANDS}}
+        times = {**applied(lines, max(1, BATCH // transactions)),
+                 **{command: spent(command, path) for command in COMMANDS}}
     text = ", ".join(f"{what} {seconds:.2f} s" for what, seconds in times.items())
     print(f"{many} recalls of {transactions}: {text}", flush=True)
     return times

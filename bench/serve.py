@@ -1,7 +1,10 @@
-"""bench/serve.py [--folder FOLDER] [--large N]: measures `serve` on this machine, beside SQLite and bare writes in the same folder.
+"""bench/serve.py [--folder FOLDER] [--large N]: measures `serve` on this machine, beside SQLite and bare writes in the
+same folder.
 
-- rounds of 1, 10, 100 and 1,000 messages, each sent when the one before has its replies: the median and the 99th of 100 in milliseconds,
-  and messages a second. Beside them rows by Python's sqlite3 (WAL, synchronous FULL), a commit a round, and the same lines by `pwrite`
+- rounds of 1, 10, 100 and 1,000 messages, each sent when the one before has its replies: the median and the 99th of 100
+in milliseconds,
+  and messages a second. Beside them rows by Python's sqlite3 (WAL, synchronous FULL), a commit a round, and the same
+  lines by `pwrite`
   and `fdatasync`, one of each a round;
 - requests a second through a pipe that is never empty: messages, and questions about one transfer;
 - the opening of a journal with a million messages: seconds, and the greatest memory.
@@ -116,14 +119,16 @@ def stream(process, lines):
 
 
 def requests(program, folder):
-    with tempfile.TemporaryDirectory(dir=folder) as place, Process(program, 1, 2, pathlib.Path(place, "serve")) as process:
+    with tempfile.TemporaryDirectory(dir=folder) as place, Process(program, 1, 2,
+                                                                   pathlib.Path(place, "serve")) as process:
         process.reply()
         lines = lines_of(STREAM)
         print(f"{STREAM / stream(process, lines):.0f} messages a second through a full pipe", flush=True)
         instructions = [message for message in map(json.loads, lines[:2 * QUESTIONS]) if "TxId" in message][:QUESTIONS]
         asked = [f"? transfer {message['DbtrAgt']} {message['TxId']}".encode() for message in instructions]
         process.ask(asked[0], LATEST)
-        print(f"{len(asked) / stream(process, asked):.0f} questions about a transfer a second, on {STREAM} messages", flush=True)
+        print(f"{len(asked) / stream(process, asked):.0f} questions about a transfer a second, on {STREAM} messages",
+              flush=True)
 
 
 # ---- an opening
@@ -144,8 +149,9 @@ def opening(program, folder, many):
             process.ask(b"? transfer BANKDEFF T1", LATEST)
             memory = pathlib.Path(f"/proc/{process.process.pid}/status").read_text()
             peak = next(int(line.split()[1]) for line in memory.splitlines() if line.startswith("VmHWM"))
-            print(f"an opening with {many} messages, {path.stat().st_size / 1e6:.0f} MB: {seconds:.1f} s, its first answer "
-                  f"{time.perf_counter() - began:.1f} s, {peak / 1000:.0f} MB at most ({ready.decode().strip()})", flush=True)
+            print(f"an opening with {many} messages, {path.stat().st_size / 1e6:.0f} MB: {seconds:.1f} s, its first "
+                  f"answer {time.perf_counter() - began:.1f} s, {peak / 1000:.0f} MB at most "
+                  f"({ready.decode().strip()})", flush=True)
 
 
 def main():

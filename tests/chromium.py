@@ -1,4 +1,5 @@
-"""chromium.py: a browser without a window, driven by Chromium's own protocol over two pipes. It needs no package of Python's."""
+"""chromium.py: a browser without a window, driven by Chromium's own protocol over two pipes. It needs no package of
+Python's."""
 from __future__ import annotations
 import base64
 import json
@@ -30,9 +31,11 @@ class Browser:
         self.reads, to_write = os.pipe()
         # the browser reads its orders from 3 and writes its answers to 4
         script = f'exec 3<&{to_read} 4>&{to_write}; exec "$@"'
-        words = [harness.command("chromium"), "--headless=new", "--remote-debugging-pipe", "--no-sandbox", "--disable-gpu", "--disable-dev-shm-usage",
+        words = [harness.command("chromium"), "--headless=new", "--remote-debugging-pipe", "--no-sandbox",
+                 "--disable-gpu", "--disable-dev-shm-usage",
                  "--lang=en", f"--window-size={width},{height}", f"--user-data-dir={self.folder.name}", "about:blank"]
-        self.process = subprocess.Popen(["bash", "-c", script, "bash", *words], pass_fds=(to_read, to_write), stdin=subprocess.DEVNULL,
+        self.process = subprocess.Popen(["bash", "-c", script, "bash", *words],
+                                        pass_fds=(to_read, to_write), stdin=subprocess.DEVNULL,
                                         stdout=subprocess.DEVNULL, stderr=subprocess.DEVNULL)
         os.close(to_read)
         os.close(to_write)
@@ -70,7 +73,8 @@ class Browser:
     def ask(self, method: Any, **parameters: Any) -> Any:
         """The answer to an order. Events that come before it are kept."""
         self.number += 1
-        order = {"id": self.number, "method": method, "params": parameters, **({"sessionId": self.session} if self.session else {})}
+        order = {"id": self.number, "method": method, "params": parameters,
+                 **({"sessionId": self.session} if self.session else {})}
         text = json.dumps(order).encode() + b"\0"
         while text:
             text = text[os.write(self.writes, text[:1 << 16]):]
@@ -138,11 +142,13 @@ class Browser:
 
     def look(self, width: Any = None, height: Any = None, is_dark: bool = False) -> None:
         """Shows the page in a size, light or dark. Without a size it is that of the window."""
-        self.ask("Emulation.setEmulatedMedia", features=[{"name": "prefers-color-scheme", "value": "dark" if is_dark else "light"}])
+        self.ask("Emulation.setEmulatedMedia",
+                 features=[{"name": "prefers-color-scheme", "value": "dark" if is_dark else "light"}])
         if width is None:
             self.ask("Emulation.clearDeviceMetricsOverride")
         else:
-            self.ask("Emulation.setDeviceMetricsOverride", width=width, height=height, deviceScaleFactor=1, mobile=width < 600)
+            self.ask("Emulation.setDeviceMetricsOverride", width=width, height=height, deviceScaleFactor=1,
+                     mobile=width < 600)
 
     def faults(self, and_failed: bool = True) -> Any:
         """What the page has reported as errors: of its scripts, and of answers that failed."""

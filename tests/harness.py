@@ -1,11 +1,14 @@
-"""harness.py: what the checks share: the paths of programs, a run and its answer, the comparison with the right one, the last line.
+"""harness.py: what the checks share: the paths of programs, a run and its answer, the comparison with the right one,
+the last line.
 
-The program is the one that `rt run` and the gate leave in crates/sct_sites, and the test driver the one in crates/sct_test_driver.
-The variables SCT_SITES and SCT_TEST_DRIVER may name other programs. Checks of what stands around the program use a stand-in of the
-definitions where the program is not there, and a line says so. A run may be limited: in processors, in memory, in the bytes that
-it writes to a file, and in seconds. One of its allocations may be refused.
+The program is the one that `rt run` and the gate leave in crates/sct_sites, and the test driver the one in
+crates/sct_test_driver. The variables SCT_SITES and SCT_TEST_DRIVER may name other programs. Checks of what is
+around the program use a stand-in of the definitions where the program is not there, and a line says so. A run may be
+limited: in processors, in memory, in the bytes that it writes to a file, and in seconds. One of its allocations may be
+refused.
 """
 from __future__ import annotations
+import contextlib
 import os
 import pathlib
 import resource
@@ -14,7 +17,7 @@ import struct
 import subprocess
 import sys
 import tempfile
-from typing import Any, Callable, NamedTuple, NoReturn, Sequence
+from typing import Any, Callable, Iterator, NamedTuple, NoReturn, Sequence
 from concurrent.futures import ThreadPoolExecutor
 
 TOP = pathlib.Path(__file__).resolve().parents[1]
@@ -26,7 +29,7 @@ DESK = TOP / "tools" / "desk"
 STAND_IN = TOP / "tests" / "standin" / "sct_sites"
 PROCESSORS = [1, 2, 4, 8]
 COUNTS = struct.Struct("@LLLLL")
-SECONDS = 20  # a run with an allocation refused that lasts longer is stopped, and has failed
+SECONDS = 60  # a run with an allocation refused that lasts longer is stopped, and has failed
 LONGEST = 900  # seconds after which any run is stopped
 
 
@@ -52,8 +55,8 @@ class Case(NamedTuple):
     folder: pathlib.Path = EXAMPLES
 
 
-# a run with the allocation of one number refused: its answer, how many allocations came, from how many threads, and their bytes, how
-# many came before the first thread was to start, and how many were refused to the start of a thread
+# a run with the allocation of one number refused: its answer, how many allocations came, from how many threads, and
+# their bytes, how many came before the first thread was to start, and how many were refused to the start of a thread
 class Refusing(NamedTuple):
     number: int
     answer: Answer
@@ -85,7 +88,8 @@ def program(crate: str = "sct_sites") -> Any:
 
 
 def program_or_stand_in() -> str:
-    """The program, or its stand-in of the definitions where nobody named one and none is built. A line says which it is."""
+    """The program, or its stand-in of the definitions where nobody named one and none is built. A line says which it
+    is."""
     path = str(os.environ.get("SCT_SITES") or CRATES / "sct_sites" / "out" / "sct_sites")
     if os.environ.get("SCT_SITES") or os.path.isfile(path):
         path = program()
@@ -125,21 +129,35 @@ def limits(processors: Any, memory: int | None, room: int | None) -> Callable[..
     return limit
 
 
-def run(words: Sequence[str | pathlib.Path], data: bytes | None = None, processors: Any = None, memory: int | None = None, room: int | None = None,
+def run(words: Sequence[str | pathlib.Path], data: bytes | None = None, processors: Any = None,
+        memory: int | None = None, room: int | None = None,
         seconds: int = LONGEST, **more: Any) -> Answer:
     """The answer of a process to an input.
 
-    It runs on so many processors, or on all if there are fewer. It may map so many bytes of memory to write in, its threads' stacks
-    included, and write so many bytes to a file. A process that goes on for longer than these seconds is stopped.
+    It runs on so many processors, or on all if there are fewer. It may map so many bytes of memory to write in, its
+    threads' stacks included, and write so many bytes to a file. A process that goes on for longer than these seconds is
+    stopped.
     """
     streams: dict[str, Any] = {"stdout": subprocess.PIPE, "stderr": subprocess.PIPE, **more}
     try:
         # if room is limited, the signal for a full file stays ignored, so that the write fails
-        done = subprocess.run(words, input=data, preexec_fn=limits(processors, memory, room), restore_signals=room is None,
+        done = subprocess.run(words, input=data,
+                              preexec_fn=limits(processors, memory, room), restore_signals=room is None,
                               timeout=seconds, **streams)
     except subprocess.TimeoutExpired:
         return Answer(b"", b"", f"none in {seconds} seconds")
     return Answer(done.stdout, done.stderr, done.returncode)
+
+
+@contextlib.contextmanager
+def started(words: Sequence[str | pathlib.Path], **more: Any) -> Iterator[subprocess.Popen[bytes]]:
+    """A process that goes on beside the check. It is killed at the end, so that a check that fails does not wait for
+    it."""
+    with subprocess.Popen(words, **more) as process:
+        try:
+            yield process
+        finally:
+            process.kill()
 
 
 def spent(words: Sequence[str | pathlib.Path], data: Any = None, **streams: Any) -> Any:
@@ -148,6 +166,13 @@ def spent(words: Sequence[str | pathlib.Path], data: Any = None, **streams: Any)
     status = run(words, data, **{"stdout": subprocess.DEVNULL, "stderr": subprocess.DEVNULL, **streams}).status
     after = resource.getrusage(resource.RUSAGE_CHILDREN)
     return after.ru_utime + after.ru_stime - before.ru_utime - before.ru_stime, status
+
+
+def least_spent(runs: Sequence[tuple[Sequence[str | pathlib.Path], bytes]], times: int) -> list[float | None]:
+    """The least processor time of each of some runs, by its words and its input. They are repeated in turn, so that
+    other work of the machine slows all of them. None for one that ended with another status than 0."""
+    rounds = [[spent(*one) for one in runs] for _ in range(times)]
+    return [None if any(status for _, status in its) else min(seconds for seconds, _ in its) for its in zip(*rounds)]
 
 
 # ---- runs with one allocation refused
@@ -169,19 +194,21 @@ def run_refusing(number: Any, library: Any, words: Any, data: Any, also: int = 0
         os.truncate(counts.name, COUNTS.size)
         given.write(data)
         given.seek(0)
-        variables = {"LD_PRELOAD": library, "REFUSE_NUMBER": str(number), "REFUSE_ALSO": str(also), "REFUSE_COUNTS": counts.name}
+        variables = {"LD_PRELOAD": library, "REFUSE_NUMBER": str(number), "REFUSE_ALSO": str(also),
+                     "REFUSE_COUNTS": counts.name}
         answer = run(words, seconds=SECONDS, stdin=given, env={**os.environ, **variables})
         return Refusing(number, answer, *COUNTS.unpack(counts.read()))
 
 
 def each_refused(library: Any, words: Any, data: Any, also: int = 0) -> Any:
-    """A run with no allocation refused, and one with each number up to the greatest count of allocations. In each run one more is
-    refused, if it is named."""
+    """A run with no allocation refused, and one with each number up to the greatest count of allocations. In each run
+    one more is refused, if it is named."""
     runs: list[Refusing] = []
     most = 0
     with ThreadPoolExecutor(len(os.sched_getaffinity(0))) as pool:
         while len(runs) <= most:
-            runs += pool.map(lambda number: run_refusing(number, library, words, data, also), range(len(runs), most + 1))
+            runs += pool.map(lambda number: run_refusing(number, library, words, data, also),
+                             range(len(runs), most + 1))
             most = max(run.allocations for run in runs)
     return runs
 

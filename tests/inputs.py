@@ -30,15 +30,16 @@ def delta(origin: int, first: int, *numbers: int) -> bytes:
 def returned() -> Any:
     """An accepted transfer of 100 euro that was recalled, and of which 99 euro were returned."""
     whole = {"OrgnlIntrBkSttlmAmt": "100.00"}
-    messages = [samples.instruction(IntrBkSttlmAmt="100.00"), samples.confirmation(), samples.recall([samples.transaction(**whole)]),
+    messages = [samples.instruction(IntrBkSttlmAmt="100.00"), samples.confirmation(),
+                samples.recall([samples.transaction(**whole)]),
                 samples.payback(RtrdIntrBkSttlmAmt="99.00", **whole)]
     text = b"T|BANKDEFFXXX|T1|RETURNED|99.00\nR|BANKDEFFXXX|T1|R1|RETURNED|99.00\n"
     return case("a return", ["status"], "".join(map(samples.line, messages)).encode(), text, b"")
 
 
 def recall(number: int, lines: list[str]) -> str:
-    """The line of a recall of all transfers that these lines instruct. Every third recall has another amount for the first
-    transfer. Every fourth has the identification of the one before."""
+    """The line of a recall of all transfers that these lines instruct. Every third recall has another amount for the
+    first transfer. Every fourth has the identification of the one before."""
     instructed = [message for message in map(json.loads, lines) if message["MsgNmId"] == "pacs.008"]
     amounts = [message["IntrBkSttlmAmt"] for message in instructed]
     if number % 3 == 0:
@@ -59,8 +60,8 @@ def long_input(many: int) -> bytes:
 
 
 def commands_on(data: Any) -> Iterator[Any]:
-    """The words of each command that reads messages alone, with the text, the refused lines and the exit status that are right for an
-    input."""
+    """The words of each command that reads messages alone, with the text, the refused lines and the exit status that
+    are right for an input."""
     for word in TEXT:
         yield [word], answer(word, data)
     for word in keep.PARTS:
@@ -95,8 +96,8 @@ def lines_in_turn(folder: Any, data: Any, many: Any) -> Any:
 
 
 def exchanging(folder: Any) -> Iterator[Any]:
-    """The words of `site`, `vector` and `cut` at site 2 of two. Its journal has a message, a refused line and a repeat. Of the two deltas
-    of site 1 the later one is given first, so that it is accepted in a second round."""
+    """The words of `site`, `vector` and `cut` at site 2 of two. Its journal has a message, a refused line and a repeat.
+    Of the two deltas of site 1 the later one is given first, so that it is accepted in a second round."""
     texts = [(instruction(1) + "{}\n" + instruction(1)).encode(), delta(1, 2, 3, 4), delta(1, 1, 2)]
     files = files_of(folder, "exchanged", texts)
     commands: list[tuple[str, list[str]]] = [("site", []), ("vector", []), ("cut", ["1:1"])]

@@ -2,10 +2,11 @@
 
 Usage: bench/embed/calls.py [MESSAGES] [MORE]   (100000 1000)
 
-A site holds MESSAGES messages of bench/generate/messages.py, which it took one by one. Then MORE are taken, each followed by its line of
-the journal, and by the lines of its transfer or by what changed, in turn. MORE others come from a second site, in a delta of one message
-each. Times are those of the processor. Those of single calls are medians. calls.c measures the same in C, with the libraries that
-tools/library.py makes. A call from Python has the cost of the call in C and of ctypes.
+A site holds MESSAGES messages of bench/generate/messages.py, which it took one by one. Then MORE are taken, each
+followed by its line of the journal, and by the lines of its transfer or by what changed, in turn. MORE others come from
+a second site, in a delta of one message each. Times are those of the processor. Those of single calls are medians.
+calls.c measures the same in C, with the libraries that tools/library.py makes. A call from Python has the cost of the
+call in C and of ctypes.
 """
 import json
 import os
@@ -59,7 +60,8 @@ def in_python(lines, more):
         site.changes()
         number = site.counts()[0]
         found = [(timed(site.take, line), timed(site.journal, number + place),
-                  timed(site.changes) if place % 2 else timed(site.transfer, *transfer_of(line))) for place, line in enumerate(after)]
+                  timed(site.changes) if place % 2 else timed(site.transfer, *transfer_of(line)))
+                 for place, line in enumerate(after)]
         took, kept, asked = zip(*found)
         yield "a take, all held", each(took), "us"
         yield "then its line of the journal", each(kept), "us"
@@ -77,7 +79,8 @@ def in_python(lines, more):
 def in_c(folder, path, more):
     """The measures from C."""
     top = library.TOP
-    words = ["gcc", "-std=c99", "-O2", f"-I{top / 'include'}", top / "bench" / "embed" / "calls.c", folder / "libniluppang.a"]
+    words = ["gcc", "-std=c99", "-O2", f"-I{top / 'include'}", top / "bench" / "embed" / "calls.c",
+             folder / "libniluppang.a"]
     subprocess.run([*words, "-o", folder / "calls"], check=True)
     text = subprocess.run([folder / "calls", path, str(more)], check=True, stdout=subprocess.PIPE).stdout.decode()
     for line in text.splitlines():

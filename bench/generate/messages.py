@@ -10,7 +10,8 @@ sys.path.insert(0, str(pathlib.Path(__file__).resolve().parents[2]))
 from bench.generate import samples
 from bench.generate.parties import account
 
-COUNTRIES = [("DE", 20099700), ("FR", 30997), ("BE", 979), ("AT", 99200), ("IT", 9931), ("ES", 9962), ("FI", 799971), ("NL", 0)]
+COUNTRIES = [("DE", 20099700), ("FR", 30997), ("BE", 979), ("AT", 99200), ("IT", 9931), ("ES", 9962), ("FI", 799971),
+             ("NL", 0)]
 NAMES = ["Anna Weber", "Bo Maes", "Jürgen Größler", "Amélie Dubois", "María Núñez", "Päivi Virtanen", "Katharina Höfer",
          "J. de Vries", "Officina Rossi S.r.l.", "Tulp Fietsen B.V.", "Atelier Lumière SARL", "Zeynep Özdemir"]
 REASONS = ["AB05", "AC01", "AC04", "AC06", "AG01", "AM04", "AM05", "MS03", "RR04", "TM01"]
@@ -24,7 +25,8 @@ def banks(r):
         four = "".join(r.choice("ABCDEFGHIJKLMNOPQRSTUVWXYZ") for _ in range(3)) + "ABCDEFGHIJKLMNOPQRSTUVWXYZ"[i // 8]
         place = r.choice(["FF", "PP", "2A", "BB", "WW", "MM", "HH"])
         branch = r.choice(["", "", "XXX", "370"])
-        out.append((four + country + place + branch, [account(country, code + i, r.randrange(10 ** 9)) for _ in range(40)]))
+        out.append((four + country + place + branch,
+                    [account(country, code + i, r.randrange(10 ** 9)) for _ in range(40)]))
     return out
 
 
@@ -59,7 +61,8 @@ def confirmation(r, i, instructed):
     rejected = r.random() < 0.05
     status = {"TxSts": "RJCT", "Rsn": r.choice(REASONS)} if rejected else samples.ACCEPTED
     return samples.confirmation(
-        status, MsgId=f"C{i:09d}", CreDtTm=time_of(i)[1], InstgAgt=instructed["CdtrAgt"], OrgnlMsgId=instructed["MsgId"],
+        status, MsgId=f"C{i:09d}", CreDtTm=time_of(i)[1], InstgAgt=instructed["CdtrAgt"],
+        OrgnlMsgId=instructed["MsgId"],
         OrgnlTxId=instructed["TxId"], DbtrAgt=instructed["DbtrAgt"])
 
 

@@ -1,8 +1,9 @@
-"""bench/generate/recalls.py N TRANSACTIONS [SEED]: prints N recalls of TRANSACTIONS transactions each, 1 to 100, for measuring.
+"""bench/generate/recalls.py N TRANSACTIONS [SEED]: prints N recalls of TRANSACTIONS transactions each, 1 to 100, for
+measuring.
 
-The same words print the same bytes. Each transaction recalls a transfer of its own, so nothing is contradicted. The transactions
-go on from recall to recall: 10 recalls of 100 have the same ones, in the same order, as 1000 recalls of one. A recall of one
-transaction is flat.
+The same words print the same bytes. Each transaction recalls a transfer of its own, so nothing is contradicted. The
+transactions go on from recall to recall: 10 recalls of 100 have the same ones, in the same order, as 1000 recalls of
+one. A recall of one transaction is flat.
 """
 import pathlib
 import random
@@ -18,7 +19,8 @@ def transaction(r, banks, number):
     """The transaction with this number. A hundred in a row are of one originator bank."""
     bank, _ = banks[number // OF_ONE_BANK % len(banks)]
     return samples.transaction(
-        CxlId=f"R{number:09d}", OrgnlMsgId=f"M{number:09d}", OrgnlTxId=f"T{number:09d}", OrgnlIntrBkSttlmAmt=messages.amount(r),
+        CxlId=f"R{number:09d}", OrgnlMsgId=f"M{number:09d}", OrgnlTxId=f"T{number:09d}",
+        OrgnlIntrBkSttlmAmt=messages.amount(r),
         Rsn=r.choice(REASONS), DbtrAgt=bank)
 
 

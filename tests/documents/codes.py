@@ -1,12 +1,13 @@
-"""codes.py: docs/users/codes.md has the numbers and names of the code and lines of the examples, and a manual page can be made of it.
+"""codes.py: docs/users/codes.md has the numbers and names of the code and lines of the examples, and a manual page can
+be made of it.
 
-The numbers and names in the tables are those of the functions `number` of the code, and so are the numbers that the page says are not
-assigned. Each word of a status text or of a report has the remedy that services/hub/meanings.json has, which the pages show. The numbers
-that the service explains have the names and the sentences of the C header, or of the page, and its remedies. Each line
-that a table shows in its column Line or Example is a line of some file of examples/ or of tests/data/, or is `fault N` and N ends a run by
-the code. Each line with a bank that the page shows elsewhere is one of an example too. The manual page that man_page.py makes has each
-section of the page, and is well-formed: troff reads each of its lines and signs as it is
-meant.
+The numbers and names in the tables are those of the functions `number` of the code, and so are the numbers that the
+page says are not assigned. Each word of a status text or of a report has the remedy that services/hub/meanings.json
+has, which the pages show. The numbers that the service explains have the names and the sentences of the C header, or of
+the page, and its remedies. Each line that a table shows in its column Line or Example is a line of some file of
+examples/ or of tests/data/, or is `fault N` and N ends a run by the code. Each line with a bank that the page shows
+elsewhere is one of an example too. The manual page that man_page.py makes has each section of the page, and is
+well-formed: troff reads each of its lines and signs as it is meant.
 """
 import json
 import re
@@ -19,7 +20,8 @@ from tools.desk.page_tables import plain, tables
 SHOWN = ["Line", "Example"]
 MOST = 78  # the greatest number
 # the sections on words, each with the table of meanings.json that has them, and the colors of that table
-WORDS = {"Statuses of a transfer": "transfers", "Findings": "findings", "Statuses of a recall": "recalls", "Results of a report": "report"}
+WORDS = {"Statuses of a transfer": "transfers", "Findings": "findings", "Statuses of a recall": "recalls",
+         "Results of a report": "report"}
 COLORS = {"good", "wait", "bad"}
 # the requests and the signs of the manual page
 REQUESTS = {".\\\"", ".TH", ".SH", ".SS", ".PP", ".TP", ".IP", ".br", ".nf", ".fi", ".RS", ".RE", ".B"}
@@ -67,7 +69,8 @@ def numbers(text, table, pairs):
 
 
 def lines_shown(text, table, ends):
-    """Whether each line that the tables show is one of an example, or ends a run, and each line with a bank that the text shows."""
+    """Whether each line that the tables show is one of an example, or ends a run, and each line with a bank that the
+    text shows."""
     examples = example_lines()
     for line in re.findall(r"`((?:[TFR]\|)?[A-Z0-9]{11}[|,][^`]+)`", text):
         yield reported(f"codes.md shows {line}", line in examples)
@@ -93,8 +96,10 @@ def remedies(text):
 
 def of_header():
     """The name and the sentence of each number in the C header."""
-    listed = (TOP / "include/niluppang.h").read_text(encoding="utf-8").partition("Refusals.")[2].partition("`place` counts")[0]
-    return {number: (name, sentence) for number, name, sentence in re.findall(r"^ \*     (\d+) (\w+) +(.*)$", listed, re.M)}
+    listed = (TOP / "include/niluppang.h").read_text(encoding="utf-8").partition("Refusals.")[2].partition(
+        "`place` counts")[0]
+    return {number: (name, sentence)
+            for number, name, sentence in re.findall(r"^ \*     (\d+) (\w+) +(.*)$", listed, re.M)}
 
 
 def explained(text):
@@ -107,7 +112,8 @@ def explained(text):
 
     titles = ("Numbers of refused lines", "Types", "Rules", "Refused deltas")
     rows = [row for title in titles for row in table(title) if row["Name"] != "`NoEvent`"]
-    right = {row["Number"]: (*header.get(row["Number"], (plain(row["Name"]), plain(row["Cause"]))), plain(row["Remedy"])) for row in rows}
+    right = {row["Number"]: (*header.get(row["Number"], (plain(row["Name"]), plain(row["Cause"]))),
+                             plain(row["Remedy"])) for row in rows}
     for row in table("Replies of `serve`"):
         number = re.match(r"`REFUSED (\d+)", row["Reply"]).group(1)
         right[number] = (*header.get(number, ("Usage", plain(row["Cause"]))), plain(row["Remedy"]))
@@ -129,7 +135,8 @@ def manual(text):
     yield reported("its requests are known", REQUESTS.issuperset(requests), f"{sorted(set(requests) - REQUESTS)}")
     blocks = "".join(request for request in requests if request in (".nf", ".fi", ".RS", ".RE"))
     yield reported("each of its blocks ends", re.fullmatch(r"(?:\.nf(?:\.RS\.RE)?\.fi)*", blocks) is not None)
-    empty = [number for number, line in enumerate(lines, 1) if not line or line == ".TP" and lines[number][:1] in ("", ".")]
+    empty = [number for number, line in enumerate(lines, 1) if not line or line == ".TP"
+             and lines[number][:1] in ("", ".")]
     yield reported("its entries have names, and no line is empty", not empty, f"{empty}")
     unknown = [line for line in lines[1:] if "\\" in SIGNS.sub("", line) or line.startswith("'")]
     yield reported("its signs are known", not unknown, "\n".join(unknown))
@@ -138,7 +145,8 @@ def manual(text):
 def main():
     text, (pairs, ends) = man_page.PAGE.read_text(encoding="utf-8"), numbers_of_code()
     table = [dict(zip(columns, row.cells)) for columns, row in tables(text.splitlines())]
-    harness.end_of([*numbers(text, table, pairs), *lines_shown(text, table, ends), *remedies(text), *explained(text), *manual(text)])
+    harness.end_of([*numbers(text, table, pairs), *lines_shown(text, table, ends), *remedies(text), *explained(text),
+                    *manual(text)])
 
 
 if __name__ == "__main__":

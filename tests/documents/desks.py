@@ -1,7 +1,7 @@
 """desks.py: the code of docs/developers/sites.md, and what the files have that the page names.
 
-The line before a block names a file. The lines of the block are lines of that file, one after another. A line `..` is left out code.
-Spaces at the beginning of a line do not count.
+The line before a block names a file. The lines of the block are lines of that file, one after another. A line `..` is
+left out code. Spaces at the beginning of a line do not count.
 """
 import re
 from tests.documents.pages import Page

@@ -1,13 +1,14 @@
-"""formats.py: the examples and tables of docs/users/formats.md, each with what the page says and what the program answers.
+"""formats.py: the examples and tables of docs/users/formats.md, each with what the page says and what the program
+answers.
 
-Section 2 has messages that are all read. A row of section 5 names one of them, what is changed in it, and how that line is refused.
-Section 3 has names of kinds, each given to the message of its kind, and reasons, each shown for a rejection and for the refusal of a
-recall, with `?` or without. No answer shows which codes are usual for a recall. Section 6 has a written form. Section 11 has refused
-lines of scripts, and a script. Sections 12 and 13 have lines of examples/hub-morning.refused and examples/hub-morning.run-refused.
-Section 8 has dates, each given to a transfer that is done but for its date.
-Section 14 has bad lists and a report. Section 10 has a delta, and section 15 what a site refuses of files of tests/data/exchange/.
-Section 16 has requests to a new site, one after another, and their replies.
-A row in other words than those of the tables stops the check.
+Section 2 has messages that are all read. A row of section 5 names one of them, what is changed in it, and how that line
+is refused. Section 3 has names of kinds, each given to the message of its kind, and reasons, each shown for a rejection
+and for the refusal of a recall, with `?` or without. No answer shows which codes are usual for a recall. Section 6 has
+a written form. Section 11 has refused lines of scripts, and a script. Sections 12 and 13 have lines of
+examples/hub-morning.refused and examples/hub-morning.run-refused. Section 8 has dates, each given to a transfer that is
+done but for its date. Section 14 has bad lists and a report. Section 10 has a delta, and section 15 what a site refuses
+of files of tests/data/exchange/. Section 16 has requests to a new site, one after another, and their replies. A row in
+other words than those of the tables stops the check.
 """
 import json
 import os
@@ -16,9 +17,10 @@ import re
 import tempfile
 from bench.generate import samples
 from tests.documents.pages import Page, answered, codes
-from tests.harness import DATA, EXAMPLES, stop
+from tests.harness import DATA, EXAMPLES, TOP, stop
 
-NAMES = ["the instruction", "the confirmation", "the request", "the recall", "the return", "the resolution", "the batch"]
+NAMES = ["the instruction", "the confirmation", "the request", "the recall", "the return", "the resolution",
+         "the batch"]
 ORDINALS = {"first": 0, "second": 1}
 BEGINNINGS = {"the header": "DbtrAgt,TxId,Amt,Sts\n", "an empty file": "", "no header": "", "two blank lines": "\n\n"}
 MOST = 100
@@ -96,7 +98,8 @@ def messages_of(page):
 
 
 def stories(program, page, messages):
-    """The answers on the first five messages, and on those with the sixth in place of the fifth. All six contradict each other."""
+    """The answers on the first five messages, and on those with the sixth in place of the fifth. All six contradict
+    each other."""
     answers = [block for block in page.blocks("Six messages") if not block.text.startswith("{")]
     lines = [messages[name] + "\n" for name in NAMES[:6]]
     for block, story in zip(answers, (lines[:5], [*lines[:4], lines[5]])):
@@ -132,7 +135,8 @@ def kinds(program, page, messages):
 
 def shown(program, code, usual):
     """The line of a transfer that is rejected for a reason, and that of a recall that is refused for it."""
-    lines = [samples.instruction(), samples.confirmation({"TxSts": "RJCT", "Rsn": code}), samples.recall([samples.transaction()]),
+    lines = [samples.instruction(), samples.confirmation({"TxSts": "RJCT", "Rsn": code}),
+             samples.recall([samples.transaction()]),
              samples.refusal(Rsn=code)]
 
     def mark(use):
@@ -149,6 +153,12 @@ def reasons(program, page, _):
     usual = {row.cells[0]: codes(row.cells[2]) for row in rows}
     listed = sorted(set().union(*usual.values()))
     many = re.search(r"These (\d+) codes are listed", page.text).group(1)
+    meanings = json.loads((TOP / "tools/desk/reasons.json").read_text(encoding="utf-8"))
+    shown_meanings = {row.cells[0].strip("`"): row.cells[1] for row in page.rows("Reasons", "Code", "Meaning")}
+    yield "the meanings of reasons", {code: its["en"] for code, its in meanings.items()}, shown_meanings
+    yield "the reasons with a meaning", listed, sorted(meanings)
+    yield "each in three languages", {("en", "de", "fr")}, {tuple(its) for its in meanings.values()
+                                                            if all(its.values())}
     for row in rows:
         yield row.line, int(many), len(listed)
         for code in listed + ["ZZ9"]:
@@ -161,7 +171,8 @@ def reasons(program, page, _):
 # ---- section 8: dates
 
 def dates(program, page, _):
-    """Which messages were created before a day: what is kept of a transfer that is done by all but the date of its confirmation."""
+    """Which messages were created before a day: what is kept of a transfer that is done by all but the date of its
+    confirmation."""
     for row in page.rows("8. Archive text", "`CreDtTm`", "Before 2026-01-02"):
         lines = [samples.instruction(), samples.confirmation(CreDtTm=codes(row.cells[0])[0])]
         text, refused, status = answered(program, ["keep", "2026-01-02"], "".join(map(samples.line, lines)))
@@ -191,7 +202,8 @@ def script(program, page, messages):
 
 def example_lines(_, page, __):
     """Lines that an example has, too."""
-    for heading, example in (("12. Standard error and exit status", "refused"), ("13. Several files: `run`", "run-refused")):
+    for heading, example in (("12. Standard error and exit status", "refused"),
+                             ("13. Several files: `run`", "run-refused")):
         [block] = page.blocks(heading)
         lines = (EXAMPLES / f"hub-morning.{example}").read_text().splitlines()
         yield block.line, block.text.splitlines(), [line for line in lines if line in block.text.splitlines()]
@@ -209,7 +221,8 @@ def reported(program, rows, lines):
 
 def rows_named(cell):
     """The list that a cell names: each part is a beginning in words, or a line."""
-    return "".join(BEGINNINGS[words] if words else row + "\n" for row, words in re.findall(r"`([^`]*)`|([a-z][a-z ]*[a-z])", cell))
+    return "".join(BEGINNINGS[words] if words else row + "\n"
+                   for row, words in re.findall(r"`([^`]*)`|([a-z][a-z ]*[a-z])", cell))
 
 
 def bad_lists(program, page, _):
@@ -222,20 +235,24 @@ def report(program, page, _):
     """The report on the list: T1 of 10.00 is accepted, `T,2` of 20.00 waits, and T3 of 5.00 is rejected."""
     [rows, text] = page.blocks("14. Lists and reports")
     amounts = {"T1": "10.00", "T,2": "20.00", "T3": "5.00"}
-    lines = [samples.instruction(MsgId=f"M{transfer[-1]}", TxId=transfer, IntrBkSttlmAmt=amounts[transfer]) for transfer in amounts]
-    lines += [samples.confirmation(), samples.confirmation({"TxSts": "RJCT", "Rsn": "AC04"}, MsgId="C3", OrgnlTxId="T3")]
+    lines = [samples.instruction(MsgId=f"M{transfer[-1]}", TxId=transfer, IntrBkSttlmAmt=amounts[transfer])
+             for transfer in amounts]
+    lines += [samples.confirmation(),
+              samples.confirmation({"TxSts": "RJCT", "Rsn": "AC04"}, MsgId="C3", OrgnlTxId="T3")]
     yield text.line, (text.text, "", 0), reported(program, rows.text, lines)
 
 
 # ---- sections 10 and 15: deltas, and a site of several machines
 
 def deltas(program, page, _):
-    """A text of a delta, which begins with entry 2 of site 1: it is a delta text, and is early for a site without entries."""
+    """A text of a delta, which begins with entry 2 of site 1: it is a delta text, and is early for a site without
+    entries."""
     for block in [block for block in page.blocks("10. Delta text") if "<" not in block.text]:
         with tempfile.NamedTemporaryFile("w") as file:
             file.write(block.text)
             file.flush()
-            yield block.line, ("-\n", "file 2: 41 1 0 2\n", 1), answered(program, ["vector", "2", "2", os.devnull, file.name], "")
+            yield block.line, ("-\n", "file 2: 41 1 0 2\n",
+                               1), answered(program, ["vector", "2", "2", os.devnull, file.name], "")
 
 
 def refused_files(program, page, _):
@@ -263,7 +280,8 @@ def requests(program, page, messages):
 
 # ---- the page
 
-PARTS = [stories, refusals, written_forms, kinds, reasons, dates, script_lines, script, example_lines, bad_lists, report, deltas,
+PARTS = [stories, refusals, written_forms, kinds, reasons, dates, script_lines, script,
+         example_lines, bad_lists, report, deltas,
          refused_files,
          requests]
 

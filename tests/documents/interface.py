@@ -1,13 +1,15 @@
-"""interface.py: VERSION, the C header, the Python package and the crate sct_c have one version, one interface and one list of numbers.
+"""interface.py: VERSION, the C header, the Python package and the crate sct_c have one version, one interface and one
+list of numbers.
 
-VERSION has the version. The macros of include/niluppang.h, bindings/python, the crate sct_version and the function `sct_version` of
-sct_c, which returns the number of that crate, agree with it, and so do the numbers in
-bindings/java and in the example in Rust. Each call that the header explains is an inline function there. It hands its
-arguments to the function of the library with the same name, result and parameters, and a word in place of a pointer to nothing. These
-functions are the exports of sct_c with the same types, and there is no other export. The class of C++ and the Python package have each
-call. The results have the same fields in the header, in the crate and in Python, and their sizes are those that the header asserts. The
-numbers, names and meanings of the header's table are those of its enumeration, of the crate sct_embed and of tests/embed/model.py, and are
-numbers of the code. What concerns sct_c is compared if crates.txt names it.
+VERSION has the version. The macros of include/niluppang.h, bindings/python, the crate sct_version and the function
+`sct_version` of sct_c, which returns the number of that crate, agree with it, and so do the numbers in bindings/java
+and in the example in Rust. Each call that the header explains is an inline function there. It hands its arguments to
+the function of the library with the same name, result and parameters, and a word in place of a pointer to nothing.
+These functions are the exports of sct_c with the same types, and there is no other export. The class of C++ and the
+Python package have each call. The results have the same fields in the header, in the crate and in Python, and their
+sizes are those that the header asserts. The numbers, names and meanings of the header's table are those of its
+enumeration, of the crate sct_embed and of tests/embed/model.py, and are numbers of the code. What concerns sct_c is
+compared if crates.txt names it.
 """
 import collections
 import re
@@ -24,7 +26,8 @@ HEADER = (TOP / "include" / "niluppang.h").read_text(encoding="utf-8")
 EXPORT = re.compile(r'^pub extern "C" fn (\w+)\(([^)]*)\)(?: -> (\w+))?', re.M)
 C_TYPES = {"bool": "bool", "u8": "uint8_t", "u16": "uint16_t", "u32": "uint32_t", "u64": "uint64_t", "usize": "size_t"}
 SIZES = {"bool": 1, "uint8_t": 1, "uint64_t": 8, "size_t": 8, "void *": 8}
-RESULTS = {"CallOutcome": "sct_outcome", "TakeOutcome": "sct_taken", "LinesOutcome": "sct_lines", "AcceptOutcome": "sct_accepted"}
+RESULTS = {"CallOutcome": "sct_outcome", "TakeOutcome": "sct_taken", "LinesOutcome": "sct_lines",
+           "AcceptOutcome": "sct_accepted"}
 PYTHON_RESULTS = {"sct_site": _library.Handle, "sct_outcome": _library.Outcome, "sct_taken": _library.TakenOutcome,
                   "sct_lines": _library.LinesOutcome, "sct_accepted": _library.AcceptedOutcome}
 VERSION, HANDLE = "sct_version", "sct_site *"
@@ -106,7 +109,8 @@ def is_read(name):
 
 def table():
     """The names and the meanings of the header's table, by number."""
-    return {int(number): (name, text) for number, name, text in re.findall(r"^ \*     (\d+) ([A-Z][a-z]\w*) +(\S.*)$", HEADER, re.M)}
+    return {int(number): (name, text)
+            for number, name, text in re.findall(r"^ \*     (\d+) ([A-Z][a-z]\w*) +(\S.*)$", HEADER, re.M)}
 
 
 def enumerated():
@@ -119,18 +123,21 @@ def refusals():
     """The numbers that the calls of the header name as their refusals."""
     for text in re.findall(r"^ \* Refusals?: ([^.]*)\.", HEADER, re.M):
         for first, last in re.findall(r"(\d+)(?: to (\d+))?", re.sub(r"\([^)]*\)", "", text)):
-            yield from set(range(int(first), int(last or first) + 1)) & ({int(first), int(last or first)} | set(table()))
+            yield from set(range(int(first), int(last or first) + 1)) & ({int(first),
+                                                                          int(last or first)} | set(table()))
 
 
 def header_versions():
     """The version by the macros of its numbers, and by that of its text."""
-    numbers = [re.search(rf"^#define SCT_VERSION_{part} (\d+)$", HEADER, re.M).group(1) for part in ("MAJOR", "MINOR", "PATCH")]
+    numbers = [re.search(rf"^#define SCT_VERSION_{part} (\d+)$", HEADER, re.M).group(1)
+               for part in ("MAJOR", "MINOR", "PATCH")]
     return ".".join(numbers), re.search(r'^#define SCT_VERSION "(.*)"$', HEADER, re.M).group(1)
 
 
 def header_checks(version):
     """Compares the parts of the header."""
-    calls, given, inline = explained(), given_away(), functions(r"^static inline (\w+) (sct_(?:site|code)_\w+)\(([^{;]*)\) \{")
+    calls, given, inline = (explained(), given_away(),
+                            functions(r"^static inline (\w+) (sct_(?:site|code)_\w+)\(([^{;]*)\) \{"))
     number = "#define SCT_VERSION_NUMBER (1000000 * SCT_VERSION_MAJOR + 1000 * SCT_VERSION_MINOR + SCT_VERSION_PATCH)\n"
     yield reported("the macros of the header are VERSION", header_versions() == (version, version) and number in HEADER)
     yield reported("each call of the header is an inline function", calls == inline, f"{calls.keys() ^ inline.keys()}")
@@ -148,7 +155,8 @@ def header_checks(version):
         yield reported(f"{name} has {size_of(fields)} bytes", asserted)
     names = {number: name for number, (name, _) in table().items()}
     yield reported("the enumeration of the header has the numbers and names of its table", enumerated() == names)
-    yield reported("each refusal of a call is in the table", {*refusals()} == {*names}, f"{sorted({*refusals()} ^ {*names})}")
+    yield reported("each refusal of a call is in the table", {*refusals()} == {*names},
+                   f"{sorted({*refusals()} ^ {*names})}")
     yield reported("the model has the numbers, names and meanings of the table", model.CODES == table())
 
 
@@ -170,16 +178,19 @@ def types(function):
 
 def exported(source):
     """The types of each export of a source."""
-    return {name: [RESULTS.get(result) or C_TYPES.get(result, "void"), *(kind for one in parameters.split(",") for kind in c_types(one))]
+    return {name: [RESULTS.get(result) or C_TYPES.get(result, "void"),
+                   *(kind for one in parameters.split(",") for kind in c_types(one))]
             for name, parameters, result in EXPORT.findall(source)}
 
 
 def crate_fields(name):
     """The fields of a structure of the crates, as pairs of a name and a type of C."""
     for path in CRATES.glob("*/src/**/*.rt"):
-        body = re.search(rf"#\[repr\(C\)\]\n(?:#.*\n)*pub struct {name} \{{\n(.*?)\n\}}", path.read_text(encoding="utf-8"), re.S)
+        body = re.search(rf"#\[repr\(C\)\]\n(?:#.*\n)*pub struct {name} \{{\n(.*?)\n\}}",
+                         path.read_text(encoding="utf-8"), re.S)
         if body:
-            return [(field, C_TYPES.get(kind)) for field, kind in re.findall(r"^    pub (\w+): (\w+),", body.group(1), re.M)]
+            return [(field, C_TYPES.get(kind))
+                    for field, kind in re.findall(r"^    pub (\w+): (\w+),", body.group(1), re.M)]
 
 
 def crate_table():
@@ -199,7 +210,8 @@ def body_of(source, name):
 
 def crate_checks(version):
     """Compares sct_c and sct_embed with the header."""
-    source, versions = ((CRATES / name / "src" / "lib.rt").read_text(encoding="utf-8") for name in ("sct_c", "sct_version"))
+    source, versions = ((CRATES / name / "src" / "lib.rt").read_text(encoding="utf-8")
+                        for name in ("sct_c", "sct_version"))
     major, minor, patch = map(int, version.split("."))
     number = str(major * 1000000 + minor * 1000 + patch)
     yield reported("what the program prints is VERSION", f'pub const VERSION: &str = "{version}";\n' in versions)
@@ -207,10 +219,12 @@ def crate_checks(version):
     yield reported("sct_version of sct_c is VERSION", is_number)
     ours, theirs = {name: types(function) for name, function in given_away().items()}, exported(source)
     for name in sorted({*ours, *theirs}):
-        yield reported(f"{name} of the header and of sct_c", ours.get(name) == theirs.get(name), f"{ours.get(name)}, {theirs.get(name)}")
+        yield reported(f"{name} of the header and of sct_c", ours.get(name) == theirs.get(name),
+                       f"{ours.get(name)}, {theirs.get(name)}")
     for crate_name, name in RESULTS.items():
         yield reported(f"{name} and {crate_name} have the same fields", structures()[name] == crate_fields(crate_name))
-    yield reported("sct_embed has the numbers, names and meanings of the table", crate_table() == table(), f"{crate_table()}")
+    yield reported("sct_embed has the numbers, names and meanings of the table", crate_table() == table(),
+                   f"{crate_table()}")
     numbers = {(int(number), name) for number, name in codes.numbers_of_code()[0]}
     for number, (name, _) in sorted(table().items()):
         yield reported(f"{number} {name} of the header is of the code", (number, name) in numbers)
@@ -226,14 +240,17 @@ def python_fields(structure):
 
 def python_types(result, *arguments):
     """The types of a function, as C writes them, by those of ctypes. A text that only goes in is a c_char_p."""
-    names = {"c_char_p": "const uint8_t *", "c_void_p": "uint8_t *", "c_ubyte": "uint8_t", "c_ushort": "uint16_t", "c_uint": "uint32_t",
+    names = {"c_char_p": "const uint8_t *", "c_void_p": "uint8_t *", "c_ubyte": "uint8_t",
+             "c_ushort": "uint16_t", "c_uint": "uint32_t",
              "c_ulong": "uint64_t", "LP_c_ulong": "uint64_t *"}
     results = {structure: name for name, structure in PYTHON_RESULTS.items()}
-    return [results.get(result) or (names[result.__name__] if result else "void"), *(names[argument.__name__] for argument in arguments)]
+    return [results.get(result) or (names[result.__name__] if result else "void"),
+            *(names[argument.__name__] for argument in arguments)]
 
 
 def in_python(function):
-    """The types of a function as ctypes tells them apart: a size is a number, and a vector that is read is one that is written."""
+    """The types of a function as ctypes tells them apart: a size is a number, and a vector that is read is one that is
+    written."""
     return [kind.replace("size_t", "uint64_t").replace("const uint64_t", "uint64_t") for kind in types(function)]
 
 
@@ -249,7 +266,8 @@ def python_checks(version):
     yield reported("the version of the Python package is VERSION", _version.__version__ == version)
     ours, theirs = given_away(), python_calls()
     for name, function in ours.items():
-        yield reported(f"{name} of the header and of Python", theirs.get(name) == in_python(function), f"{function}, {theirs.get(name)}")
+        yield reported(f"{name} of the header and of Python", theirs.get(name) == in_python(function),
+                       f"{function}, {theirs.get(name)}")
     yield reported("Python has no other function", set(theirs) == set(ours), f"{set(theirs) ^ set(ours)}")
     for name, fields in structures().items():
         same = [(field, kind.replace("size_t", "uint64_t")) for field, kind in fields]

@@ -1,7 +1,9 @@
-"""linters.py: flake8, mypy and shellcheck find nothing in the programs and scripts around the program. setup.cfg says what they look at.
+"""linters.py: flake8, mypy and shellcheck find nothing in the programs and scripts around the program. setup.cfg says
+what they look at.
 
-flake8 reads all files of Python. mypy reads the services, the tools, and what the checks share: each function there has types. The modules
-of a folder whose scripts import each other by their bare names are read by themselves. shellcheck reads all shell scripts.
+flake8 reads all files of Python. mypy reads the services, the tools, and what the checks share: each function there has
+types. The modules of a folder whose scripts import each other by their bare names are read by themselves. shellcheck
+reads all shell scripts.
 """
 from __future__ import annotations
 import os
@@ -17,16 +19,18 @@ SERVICES = ("services",), ("-p", "hub", "-p", "parts")
 CLIENT = ("services/hub",), ("-m", "client", "-m", "hubctl")
 DESK = ("tools/desk",), tuple(word for path in sorted(harness.DESK.glob("*.py")) for word in ("-m", path.stem))
 # the modules that checks share, by their paths in tests/
-SHARED = ("harness", "inputs", "run", "chromium", "documents/pages", "documents/sources", "documents/linters", "golden/shown", "golden/titled",
+SHARED = ("harness", "inputs", "run", "chromium", "documents/pages", "documents/sources", "documents/linters",
+          "golden/shown", "golden/titled",
           "hub/sites", "hub/secure", "page/driving", "property/cases")
-TOOLS = (".",), tuple(word for name in [*(f"tools.{path.stem}" for path in sorted((TOP / "tools").glob("[!_]*.py"))),
-                                        *(f"tests.{name.replace('/', '.')}" for name in SHARED)] for word in ("-m", name))
+TOOLS = ((".", "services"), tuple(word for name in [*(f"tools.{path.stem}" for path in sorted((TOP / "tools").glob(
+    "[!_]*.py"))), *(f"tests.{name.replace('/', '.')}" for name in SHARED)] for word in ("-m", name)))
 
 
 def files() -> list[pathlib.Path]:
     """All files in the folders, without those that a build leaves."""
     found = [path for folder in FOLDERS for path in sorted((TOP / folder).rglob("*")) if path.is_file()]
-    return [path for path in found if not {"out", "target", "build", "__pycache__"} & set(path.relative_to(TOP).parts[:-1])]
+    return [path for path in found
+            if not {"out", "target", "build", "__pycache__"} & set(path.relative_to(TOP).parts[:-1])]
 
 
 def finds_nothing(name: str, words: list[str], **variables: str) -> bool:
@@ -36,7 +40,8 @@ def finds_nothing(name: str, words: list[str], **variables: str) -> bool:
 
 
 def shell_scripts() -> list[pathlib.Path]:
-    return [TOP / ".ci" / "run", *sorted(TOP.glob("examples/**/*.sh")), *(path for path in files() if path.suffix == ".sh")]
+    return [TOP / ".ci" / "run", *sorted(TOP.glob("examples/**/*.sh")),
+            *(path for path in files() if path.suffix == ".sh")]
 
 
 def main() -> None:

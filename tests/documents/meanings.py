@@ -1,7 +1,7 @@
 """meanings.py: each public name of the files of definitions has one meaning.
 
-No name is declared in two of these files. Files for proofs do not count, as their heads say, nor do the files of ALIKE among themselves.
-EXCEPTIONS has the other names, each with the reason.
+No name is declared in two of these files. Files for proofs do not count, as their heads say, nor do the files of ALIKE
+among themselves. EXCEPTIONS has the other names, each with the reason.
 """
 import collections
 import re

@@ -1,7 +1,8 @@
 """model.py: the worked examples of docs/users/model.md, each with what the page says and what the program answers.
 
-The messages of an example are written in the words of the table at the head of the page, whose values they have. An example is a block
-of a form of FORMS, or a script with its events. A block of another form stops the check, and so does a message in other words.
+The messages of an example are written in the words of the table at the head of the page, whose values they have. An
+example is a block of a form of FORMS, or a script with its events. A block of another form stops the check, and so does
+a message in other words.
 """
 import json
 import re
@@ -24,7 +25,8 @@ def about(transfer):
 def instructs(msg_id, transfer, amount, receiver, sender, kind):
     sender = sender or ORIGINATOR
     return samples.instruction(
-        MsgNmId=kind or "pacs.008", MsgId=msg_id, InstgAgt=sender, TxId=transfer, IntrBkSttlmAmt=amount or AMOUNT, DbtrAgt=sender,
+        MsgNmId=kind or "pacs.008", MsgId=msg_id, InstgAgt=sender, TxId=transfer,
+        IntrBkSttlmAmt=amount or AMOUNT, DbtrAgt=sender,
         CdtrAgt=receiver or BENEFICIARY)
 
 
@@ -47,7 +49,8 @@ def recalled(words):
     if match is None:
         stop(f"these are not the words of a transaction: {words}")
     transfer, recall, amount, reason = match.groups()
-    return samples.transaction(CxlId=recall, OrgnlIntrBkSttlmAmt=amount or AMOUNT, Rsn=reason or REASON, **about(transfer))
+    return samples.transaction(CxlId=recall, OrgnlIntrBkSttlmAmt=amount or AMOUNT, Rsn=reason or REASON,
+                               **about(transfer))
 
 
 def recalls(msg_id, transactions):
@@ -56,12 +59,14 @@ def recalls(msg_id, transactions):
 
 def returns(msg_id, transfer, recall, return_id, returned, original):
     return samples.payback(
-        MsgId=msg_id, InstgAgt=BENEFICIARY, RtrId=return_id or "X1", OrgnlCxlId=recall, OrgnlIntrBkSttlmAmt=original or AMOUNT,
+        MsgId=msg_id, InstgAgt=BENEFICIARY, RtrId=return_id or "X1", OrgnlCxlId=recall,
+        OrgnlIntrBkSttlmAmt=original or AMOUNT,
         RtrdIntrBkSttlmAmt=returned or AMOUNT, **about(transfer))
 
 
 def refuses(msg_id, recall, transfer, reason):
-    return samples.refusal(MsgId=msg_id, InstgAgt=BENEFICIARY, OrgnlCxlId=recall, Rsn=reason or "CUST", **about(transfer))
+    return samples.refusal(MsgId=msg_id, InstgAgt=BENEFICIARY, OrgnlCxlId=recall, Rsn=reason or "CUST",
+                           **about(transfer))
 
 
 WORDS = {
@@ -185,20 +190,26 @@ def settling(_, words, gives):
     if refused:
         yield gives, ["|".join(map(str, ["REFUSED", *refused]))]
         return
-    held = {", ".join(f"({origin},{place})" for origin, place, _ in sorted(site.held, key=lambda one: one[:2])) for site in sites}
+    held = {", ".join(f"({origin},{place})" for origin, place, _ in sorted(site.held, key=lambda one: one[:2]))
+            for site in sites}
     yield gives, [f"SETTLED, and each site holds {one}" for one in held]
 
 
 # The forms of blocks, by their labels:
-# - `held` and `gives` or `totals`: the status text or the totals text of the messages. They are also read in the opposite order, and
+# - `held` and `gives` or `totals`: the status text or the totals text of the messages. They are also read in the
+# opposite order, and
 #   each of them twice.
-# - `added` and `held`: each message with what the archive answers to it. An archive text that does not change is a Repeat. If it had a
+# - `added` and `held`: each message with what the archive answers to it. An archive text that does not change is a
+# Repeat. If it had a
 #   message of the same identity before, the answer is Against, else Fresh.
-# - `settled` and `gives`: sites with their entries, and how settling ends by the definitions (groups.py), since no command settles
+# - `settled` and `gives`: sites with their entries, and how settling ends by the definitions (groups.py), since no
+# command settles
 #   sites that are named so.
 # - `part 1`, `part 2`, `gives 1`, `gives 2` and `both`: the status text of each part, and of both together.
-# - `held`, `kept` and `closed`: the identifications of the messages that are kept and of those that are closed, on a day after all of them.
-# - `events` and perhaps `site N`: a script with the outcome of each line, and the status text of a site at the end (replayed).
+# - `held`, `kept` and `closed`: the identifications of the messages that are kept and of those that are closed, on a
+# day after all of them.
+# - `events` and perhaps `site N`: a script with the outcome of each line, and the status text of a site at the end
+# (replayed).
 FORMS = {
     ("held", "gives"): text_of("status"),
     ("held", "totals"): text_of("totals"),

@@ -1,12 +1,13 @@
 """names.py: the names that README.md, the pages in docs and the README.md of some folders write are those of the code.
 
-Names in backquotes are declared in a crate, or are words of crates.txt, of the tests, benches or examples, or of OUTSIDE. Those of a
-crate, as "`settle` of sct_world", and those that follow a file, are declared there. Files in backquotes exist, and links lead to a file
-and a heading. README.md links to every page. Rows of promises have functions of the crate of their section, and clauses of these
-functions: without a clause a function has a single one, and a law has an empty body. The first line of each edit says what it does.
-So does that of each source and each file of definitions, and the files of the table of places declare what it names. The page for
-auditors has functions with their clauses, definitions and their number, code at its line, and every crate of the kit that is used.
-NOTICE has these crates too.
+Names in backquotes are declared in a crate, or are words of crates.txt, of the tests, benches or examples, or of
+OUTSIDE. Those of a crate, as "`settle` of sct_world", and those that follow a file, are declared there. Files in
+backquotes exist, and links lead to a file and a heading. README.md links to every page. Rows of promises have functions
+of the crate of their section, and clauses of these functions: without a clause a function has a single one, and a law
+has an empty body. The first line of each edit says what it does. So does that of each source and each file of
+definitions, and the files of the table of places declare what it names. The page for auditors has functions with their
+clauses, definitions and their number, code at its line, and every crate of the kit that is used. NOTICE has these
+crates too.
 """
 import functools
 import os
@@ -18,12 +19,14 @@ from tests.documents.pages import codes, rows
 from tests.harness import CRATES, TOP
 
 PAGES = [*sorted(TOP.glob("*.md")), *sorted((TOP / "docs").rglob("*.md")), TOP / "examples" / "README.md"]
-OF_FOLDERS = [TOP / folder / "README.md" for folder in ("services", "tools/desk", "tests/data")]  # CONTRIBUTING.md has these folders
+# CONTRIBUTING.md has these folders
+OF_FOLDERS = [TOP / folder / "README.md" for folder in ("services", "tools/desk", "tests/data")]
 
-# names of std, of the language and of the kit, commands of the shell, and names that a page has because they are wrong here
+# names of std, of the language and of the kit, commands of the shell, and names that a page has because they are wrong
+# here
 OUTSIDE = set("""
     AllocError Brand Debug Display IfErr IfSome OnErr OnOk Vec Wait dac8208d650f15bf try_send
-    comm diff grep
+    comm diff grep RT_JOBS
     Ctgy HANSDEHH370 PDCR txid
 """.split())
 
@@ -49,9 +52,10 @@ def words_of(name):
 
 
 def prose(text):
-    """The lines of a page with their numbers, but for blocks of code: between lines of three backquotes, or indented after an empty
-    line."""
-    text = re.sub(r"^( *)```.*?^\1```", lambda block: "\n" * block.group().count("\n"), text, flags=re.MULTILINE | re.DOTALL)
+    """The lines of a page with their numbers, but for blocks of code: between lines of three backquotes, or indented
+    after an empty line."""
+    text = re.sub(r"^( *)```.*?^\1```", lambda block: "\n" * block.group().count("\n"), text,
+                  flags=re.MULTILINE | re.DOTALL)
     found, above = [], ""
     for number, line in enumerate(text.splitlines(), 1):
         if line.startswith("    ") and not above and not line.lstrip().startswith("- "):
@@ -63,7 +67,8 @@ def prose(text):
 
 def sections(text):
     """The lines of each section below its heading, as deep as it goes, with the heading and its line."""
-    found = [(match.start(), len(match.group(1)), match.group(2)) for match in re.finditer(r"^(#+) (.*)$", text, re.MULTILINE)]
+    found = [(match.start(), len(match.group(1)), match.group(2))
+             for match in re.finditer(r"^(#+) (.*)$", text, re.MULTILINE)]
     for place, (start, depth, heading) in enumerate(found):
         end = next((later for later, other, _ in found[place + 1:] if other <= depth), len(text))
         yield heading, text.count("\n", 0, start) + 1, text[start:end].splitlines()
@@ -90,7 +95,8 @@ def is_in(name, crate):
 
 def check_outside(report):
     """Each name of OUTSIDE is on a page."""
-    seen = {word for page in PAGES for _, line in prose(page.read_text()) for name in codes(line) for word in words_of(name)}
+    seen = {word for page in PAGES for _, line in prose(page.read_text()) for name in codes(line)
+            for word in words_of(name)}
     for name in sorted(OUTSIDE):
         report.check(pathlib.Path(__file__), 1, name in seen, f"no page has {name} of OUTSIDE")
 
@@ -101,7 +107,8 @@ def all_files():
     tops = [TOP / name for name in ("docs", "tests", "bench", "examples", "services", "bindings", "tools")]
     tops += [CRATES / crate / part for crate in sources.names() for part in ("src", "specs", "proofs", "must-fail")]
     found = [os.path.join(folder, name) for top in tops for folder, _, names in os.walk(top) for name in names]
-    return "\n".join("/" + os.path.relpath(path, TOP) for path in [*TOP.glob("*.*"), *found]) + "\n"
+    return "\n".join("/" + os.path.relpath(path, TOP)
+                     for path in [*TOP.glob("*.*"), *CRATES.glob("*.txt"), *found]) + "\n"
 
 
 def is_file(name):
@@ -145,7 +152,8 @@ def check_links(report, page, text):
                 file, _, anchor = target.partition("#")
                 to = (page.parent / file).resolve() if file else page
                 report.check(page, number, to.exists(), f"there is no file {file}")
-                report.check(page, number, not anchor or not to.is_file() or anchor in anchors(to), f"there is no heading {target}")
+                report.check(page, number, not anchor or not to.is_file() or anchor in anchors(to),
+                             f"there is no heading {target}")
 
 
 def check_pages(report, page, text):
@@ -159,7 +167,8 @@ def check_pages(report, page, text):
 # ---- tables
 
 def found(name, functions):
-    """The functions that a name of a table means: of a type or a trait if it has one before it. A trait means its members."""
+    """The functions that a name of a table means: of a type or a trait if it has one before it. A trait means its
+    members."""
     owner, _, last = name.rpartition("::")
     if owner:
         return [one for one in functions if one.name == last and owner in (one.type, one.trait)]
@@ -168,8 +177,8 @@ def found(name, functions):
 
 
 def carriers(cell):
-    """The items of a cell: what they are (a law, an invariant or nothing), functions, clauses, and crates that are named. A function
-    without a type may be of the type before it."""
+    """The items of a cell: what they are (a law, an invariant or nothing), functions, clauses, and crates that are
+    named. A function without a type may be of the type before it."""
     for item in cell.split("; "):
         kind = re.match(r"law |invariant of |", item).group().split(" ")[0]
         named, _, clauses = item.partition(": ")
@@ -198,7 +207,8 @@ def check_promise(report, page, number, cell, its):
             report.check(page, number, bool(ones), f"{', '.join(crates or its)} has no {name}")
             report.check(page, number, any(one in carrying for one in ones), f"{name} carries no clause of the row")
         for clause in clauses:
-            report.check(page, number, any(clause in one.clauses for one in carrying), f"no function of the row has the clause {clause}")
+            report.check(page, number, any(clause in one.clauses for one in carrying),
+                         f"no function of the row has the clause {clause}")
 
 
 def check_promises(report, page, text):
@@ -214,48 +224,58 @@ def crates_of(heading):
 
 
 def check_edits(report, page, text):
-    """Whether the first line of each edit says what it does, which the page points to, and whether the lines that it turns are there."""
+    """Whether the first line of each edit says what it does, which the page points to, and whether the lines that it
+    turns are there."""
     for path in sorted(CRATES.glob("*/must-fail/*")):
         lines = path.read_text(encoding="utf-8").splitlines()
-        report.check(path, 1, re.fullmatch(r"# [^a-z].*\.", lines[0]) is not None, "the first line does not say what the edit does")
+        report.check(path, 1, re.fullmatch(r"# [^a-z].*\.", lines[0]) is not None,
+                     "the first line does not say what the edit does")
         text = ""
         for number, line in enumerate(lines, 1):
             if line.startswith("file: "):
                 text = (path.parents[1] / line[len("file: "):]).read_text(encoding="utf-8")
             elif line.startswith("old: "):
-                report.check(path, number, text.count(line[len("old: "):]) == 1, "the line that the edit turns is not there once")
+                report.check(path, number, text.count(line[len("old: "):]) == 1,
+                             "the line that the edit turns is not there once")
 
 
 def check_places(report, page, text):
     """The rows that say where things are: files of the crate, or of the one before them, each with what it declares."""
     for number, cells in rows(text.splitlines(), 1, ["What", "Crate", "Function", "Definition"]):
-        for other, file, named in re.findall(r"(?:(sct_\w+)'s )?`([\w/]+\.(?:rt|antt))`((?:,? `\w+`)*)", " ".join(cells[2:])):
+        for other, file, named in re.findall(r"(?:(sct_\w+)'s )?`([\w/]+\.(?:rt|antt))`((?:,? `\w+`)*)",
+                                             " ".join(cells[2:])):
             path = CRATES / (other or cells[1]) / ("src" if file.endswith(".rt") else "specs") / file
             report.check(page, number, path.is_file(), f"{other or cells[1]} has no {file}")
             for name in codes(named) if path.is_file() else []:
-                report.check(page, number, name in sources.declared(path), f"{file} of {other or cells[1]} declares no {name}")
+                report.check(page, number, name in sources.declared(path),
+                             f"{file} of {other or cells[1]} declares no {name}")
 
 
 def check_sources(report, page, text):
-    """Whether each source and each file of definitions says in its first line what it does, which the page points to."""
+    """Whether each source and each file of definitions says in its first line what it does, which the page points
+    to."""
     for crate in sources.names():
         for path in [*sources.files(crate).values(), *sorted((CRATES / crate / "specs").glob("*.antt"))]:
             mark = "//! " if path.suffix == ".rt" else "-- "
-            report.check(path, 1, path.read_text(encoding="utf-8").startswith(mark), "the first line does not say what the file does")
+            report.check(path, 1, path.read_text(encoding="utf-8").startswith(mark),
+                         "the first line does not say what the file does")
 
 
 # ---- the page for auditors
 
 def check_carried(report, page, text):
-    """The tables of what carries the commands, and of the definitions: functions with their clauses, and definitions, by file."""
+    """The tables of what carries the commands, and of the definitions: functions with their clauses, and definitions,
+    by file."""
     for number, cells in rows(text.splitlines(), 1, ["Command", "Function and clause", "File", "What is printed"]):
-        functions = [one for file in codes(cells[2]) for one in sources.functions(file.split("/")[1]) if f"crates/{one.file}" == file]
+        functions = [one for file in codes(cells[2]) for one in sources.functions(file.split("/")[1])
+                     if f"crates/{one.file}" == file]
         names = codes(cells[1])
         ones = [one for one in functions if one.name in names]
         report.check(page, number, bool(ones), f"no file of the row has {names[0]}")
         for name in names:
             known = any(name == one.name or name in one.clauses for one in ones) or name.startswith("Is")
-            report.check(page, number, known or name in sources.names(), f"no function of the row has the clause {name}")
+            report.check(page, number, known or name in sources.names(),
+                         f"no function of the row has the clause {name}")
     for number, (names, _, files) in rows(text.splitlines(), 1, ["Definition", "Says", "File"]):
         there = set().union(*(sources.declared(path_of(file)) for file in codes(files) if path_of(file).is_file()))
         for name in codes(names):
@@ -264,11 +284,14 @@ def check_carried(report, page, text):
 
 def check_counts(report, page, text):
     """On how many files of definitions the headline rests, and its first definition alone."""
-    table = next(list(rows(lines, 1, ["Definition", "Says", "File"])) for heading, _, lines in sections(text) if "headline" in heading)
+    table = next(list(rows(lines, 1, ["Definition", "Says", "File"])) for heading, _, lines in sections(text)
+                 if "headline" in heading)
     files = [path_of(file) for _, (_, _, named) in table for file in codes(named)]
     counts = [len(sources.rests_on(files)), len(sources.rests_on(files[:1]))]
-    stated = re.search(r"these are (\d+) files of definitions\. `\w+` alone rests on (\d+) files", text.replace("\n", " "))
-    report.check(page, 1, stated is not None and [*map(int, stated.groups())] == counts, f"the files of definitions are {counts}")
+    stated = re.search(r"these are (\d+) files of definitions\. `\w+` alone rests on (\d+) files",
+                       text.replace("\n", " "))
+    report.check(page, 1, stated is not None and [*map(int, stated.groups())] == counts,
+                 f"the files of definitions are {counts}")
 
 
 def check_quotes(report, page, text):
@@ -279,7 +302,8 @@ def check_quotes(report, page, text):
         path = TOP / file
         there = "".join(part.strip() + "\n" for part in path.read_text().splitlines()) if path.is_file() else ""
         at = there.count("\n", 0, there.index(shown)) + 1 if shown in there else "no line"
-        report.check(page, text.count("\n", 0, match.start()) + 1, str(at) == line, f"{file}:{line}: this code is at {at}")
+        report.check(page, text.count("\n", 0, match.start()) + 1, str(at) == line,
+                     f"{file}:{line}: this code is at {at}")
 
 
 def crates_of_kit():
@@ -296,13 +320,15 @@ def check_kit(report, page, text):
 
 
 def check_notice(report, page, text):
-    """Whether NOTICE, to which the page points, names each crate of the kit that is used, and both say that there is no licence."""
+    """Whether NOTICE, to which the page points, names each crate of the kit that is used, and both say that there is no
+    licence."""
     notice = TOP / "NOTICE"
     words = set(re.findall(r"\w+", notice.read_text(encoding="utf-8")))
     for crate in crates_of_kit():
         report.check(notice, 1, crate in words, f"NOTICE does not name the crate {crate} of the kit")
     for one in (page, notice):
-        report.check(one, 1, "No licence has been granted yet" in one.read_text(encoding="utf-8"), "it does not say that no licence has been granted yet")
+        report.check(one, 1, "No licence has been granted yet" in one.read_text(encoding="utf-8"),
+                     "it does not say that no licence has been granted yet")
 
 
 BY_PAGE = {
@@ -318,7 +344,8 @@ def main():
     report = Report()
     for page in [*PAGES, *OF_FOLDERS]:
         text = page.read_text()
-        for check in [check_names, check_files, check_declared, check_links, *BY_PAGE.get(page.relative_to(TOP).as_posix(), [])]:
+        for check in [check_names, check_files, check_declared, check_links,
+                      *BY_PAGE.get(page.relative_to(TOP).as_posix(), [])]:
             check(report, page, text)
     check_outside(report)
     for fault in report.faults:

@@ -1,8 +1,10 @@
-"""numbers.py: pages quote the numbers of docs/developers/costs.md that are there to be quoted, and no others in their place.
+"""numbers.py: pages quote the numbers of docs/developers/costs.md that are there to be quoted, and no others in their
+place.
 
-The table "Numbers that other pages quote" of that page has each number with its value. TOPICS says which sentences quote one, and what in
-them is a value. Each value of such a sentence is that of a number of its topic, and each number is quoted on some page. A cell of a
-table is a sentence. Measurements of costs.md itself, and what versions of the past took (CHANGELOG.md), are not compared.
+The table "Numbers that other pages quote" of that page has each number with its value. TOPICS says which sentences
+quote one, and what in them is a value. Each value of such a sentence is that of a number of its topic, and each number
+is quoted on some page. A cell of a table is a sentence. Measurements of costs.md itself, and what versions of the past
+took (CHANGELOG.md), are not compared.
 """
 import collections
 import re
@@ -22,11 +24,12 @@ TOPICS = [
     Topic(["memory of a message"], r"\bKB\b.*\ba message\b|\ba message\b.*\bKB\b", r"[\d.,]+ KB"),
     Topic(["time of `status`"], r"(?=.*\b(?:1,000,000|a million) messages)(?=.*\bseconds?\b)", r"[\d.,]+ seconds?"),
     Topic(["messages in an input"], r"million messages", r"[\d.,]+ million"),
-    Topic(["time of `services/parts/`", "bytes that `services/parts/`", "time of the gate", "memory that the gate", "disk that the gate"],
+    Topic(["time of `services/parts/`", "bytes that `services/parts/`", "time of the gate",
+           "memory that the gate", "disk that the gate"],
           r"2,000,000 messages|minutes on four processors", r"[\d.,]+ (?:minutes|seconds|GB)"),
     Topic(["memory of a worker"], r"(?=.*\bworker\b)(?=.*\bMB\b)", r"[\d.,]+ MB"),
     Topic(["memory of the page", "time of the page"], r"\bpage takes\b(?=.*\bGB\b)", r"[\d.,]+ GB|[\d.,]+ s\b"),
-    Topic(["time of `rt try`"], r"`rt try`.*\bminutes\b", r"[\d.,]+ minutes"),
+    Topic(["time of `rt try`"], r"`rt try`.*\bminutes\b", r"[\d.,]+ minutes")
 ]
 
 

@@ -1,7 +1,8 @@
 """page_examples.py: the program answers the worked examples of docs/users/model.md and the examples and tables of
 docs/users/formats.md as the pages say, and the code of docs/developers/sites.md is in the files that the page names.
 
-The inputs are made of what the pages say (model.py, formats.py, desks.py). An example in words that are not known stops the check.
+The inputs are made of what the pages say (model.py, formats.py, desks.py). An example in words that are not known stops
+the check.
 """
 import itertools
 from tests import harness

@@ -1,4 +1,5 @@
-"""pages.py: the examples and tables of a page of docs/, each with the number of its first line, and the answers of the program."""
+"""pages.py: the examples and tables of a page of docs/, each with the number of its first line, and the answers of the
+program."""
 from __future__ import annotations
 import re
 from typing import Any, Iterator, NamedTuple, Sequence
@@ -47,7 +48,8 @@ class Page:
 
     def found(self, pattern: Any, heading: Any = None) -> Any:
         """Each match of a pattern, in a section or on the whole page."""
-        return re.compile(pattern, re.M | re.S).finditer(self.text, *(self.section(heading) if heading else (0, len(self.text))))
+        return re.compile(pattern, re.M | re.S).finditer(self.text,
+                                                         *(self.section(heading) if heading else (0, len(self.text))))
 
     def blocks(self, heading: Any = None) -> Iterator[Any]:
         """The texts between lines of three backquotes."""

@@ -1,9 +1,10 @@
 """schema.py: examples/message.schema.json accepts the lines that the program reads, and refuses those that it refuses.
 
-The lines are those of examples/ and of tests/data/cases/, and the messages of docs/users/formats.md, changed in one place in each way: a key
-left out, a key more, and other values. A schema cannot see some refusals (UNSEEN): a line with one of them is accepted, unless it has
-another fault too. A line that is no JSON text (31) is not looked at. Python's `$` also matches before a last line feed, and that of a
-schema does not: so the patterns are read with `\\Z` in its place.
+The lines are those of examples/ and of tests/data/cases/, and the messages of docs/users/formats.md, changed in one
+place in each way: a key left out, a key more, and other values. A schema cannot see some refusals (UNSEEN): a line with
+one of them is accepted, unless it has another fault too. A line that is no JSON text (31) is not looked at. Python's
+`$` also matches before a last line feed, and that of a schema does not: so the patterns are read with `\\Z` in its
+place.
 """
 import copy
 import json
@@ -19,11 +20,16 @@ SCHEMA = EXAMPLES / "message.schema.json"
 NOT_JSON = "31"
 UNSEEN = [r"36 \w+ 2", "38 18", "38 22"]  # check digits, more back than was sent, one recall made twice
 # values that are put in the place of each text
-VALUES = ["", " ", "x", "SEPA", "SEPB", "INST", "EUR", "USD", "SLEV", "ACCP", "RJCT", "RJCR", "FOCR", "ZZ9", "AB123", "T1", "T//1",
-          "/T1", "T1/", "T_1", "T1\n", "a" * 35, "a" * 36, "a" * 70, "a" * 71, "\u00e9" * 70, "\U0001f600" * 71, "a" * 140, "a" * 141,
-          "HANSDEHH", "HANSDEHH370", "HANSDEHHX", "hansdehh", "12.50", "12.5", "012", "0", "0.00", "1234567890", "1.234", "1,5", "-1",
-          ".5", "5.", "2025-03-10", "2025-02-31", "2025-3-10", "20250310", "2025-03-10T07:00:00Z", "DE89370400440532013000",
-          "de89370400440532013000", "DE89 3704 0044", "pacs.008", "pacs.008.001.08", "pacs.008.1.8", "camt.056", "camt.056.001.08",
+VALUES = ["", " ", "x", "SEPA", "SEPB", "INST", "EUR", "USD", "SLEV", "ACCP", "RJCT", "RJCR",
+          "FOCR", "ZZ9", "AB123", "T1", "T//1",
+          "/T1", "T1/", "T_1", "T1\n", "a" * 35, "a" * 36, "a" * 70, "a" * 71, "\u00e9" * 70,
+          "\U0001f600" * 71, "a" * 140, "a" * 141,
+          "HANSDEHH", "HANSDEHH370", "HANSDEHHX", "hansdehh", "12.50", "12.5", "012", "0", "0.00",
+          "1234567890", "1.234", "1,5", "-1",
+          ".5", "5.", "2025-03-10", "2025-02-31", "2025-3-10", "20250310",
+          "2025-03-10T07:00:00Z", "DE89370400440532013000",
+          "de89370400440532013000", "DE89 3704 0044", "pacs.008", "pacs.008.001.08", "pacs.008.1.8",
+          "camt.056", "camt.056.001.08",
           "pacs.002", "pacs.003", None, 1, 12.5, True, [], {}, ["T1"]]
 
 
@@ -54,7 +60,8 @@ def changed(message):
                 else:
                     place(one)[key] = value
                 yield one
-        for key in ("Purp", "OrgnlCxlId", "Rsn", "TxInf", "OrgnlEndToEndId", "InstdAgt", "InstrId", "Ustrd", "OrgnlIntrBkSttlmDt"):
+        for key in ("Purp", "OrgnlCxlId", "Rsn", "TxInf", "OrgnlEndToEndId", "InstdAgt", "InstrId", "Ustrd",
+                    "OrgnlIntrBkSttlmDt"):
             one = copy.deepcopy(message)
             place(one)[key] = "T1"
             yield one
@@ -101,7 +108,8 @@ def refusals(lines):
 
 
 def wrong(lines, refused, schema):
-    """The lines of which the schema and the program say different things, each with what they say, and how many were asked about."""
+    """The lines of which the schema and the program say different things, each with what they say, and how many were
+    asked about."""
     found, asked = [], 0
     for number, line in enumerate(lines, 1):
         refusal = refused.get(number)
@@ -111,7 +119,8 @@ def wrong(lines, refused, schema):
         accepts = schema.is_valid(json.loads(line))
         is_unseen = any(re.fullmatch(pattern, refusal or "") for pattern in UNSEEN)
         if accepts != (refusal is None) and not (is_unseen and accepts):
-            found.append(f"{line[:300]}: the program says {refusal}, and the schema {'accepts' if accepts else 'refuses'} it")
+            found.append(
+                f"{line[:300]}: the program says {refusal}, and the schema {'accepts' if accepts else 'refuses'} it")
     return found, asked
 
 
@@ -124,7 +133,8 @@ def main():
         seen = {re.match(r"(?:56 \d+ )?(\d+)", refusal)[1] for refusal in refused.values()}
         kinds = {"32", "33", "34", "35", "36", "37", "38"} - ({"32"} if lines is made else set())
         right.append(reported(f"{name}, {asked} lines", not found, "\n".join(found[:20])))
-        right.append(reported(f"{name} have lines of each kind of refusal", kinds <= seen and len(refused) < asked, str(sorted(seen))))
+        right.append(reported(f"{name} have lines of each kind of refusal", kinds <= seen and len(refused) < asked,
+                              str(sorted(seen))))
     unseen = {pattern for pattern in UNSEEN for refusal in refused.values() if re.fullmatch(pattern, refusal)}
     right.append(reported("each refusal that a schema cannot see was tried", unseen == set(UNSEEN), str(unseen)))
     harness.end_of(right)

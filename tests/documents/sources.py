@@ -1,4 +1,5 @@
-"""sources.py: the names in the code: files, functions with their clauses, definitions, edits, and the words of tests and examples."""
+"""sources.py: the names in the code: files, functions with their clauses, definitions, edits, and the words of tests
+and examples."""
 from __future__ import annotations
 import collections
 import functools
@@ -8,8 +9,9 @@ from typing import Iterator, NamedTuple
 from tests.harness import CRATES, TOP
 
 
-# A function, with the type and the trait of its `impl` or None, the names of its clauses, None for one without a name, and whether its
-# body does nothing. The ghost members of an `impl`, and the ghost fields of a type, make up one that has no name.
+# A function, with the type and the trait of its `impl` or None, the names of its clauses, None for one without a name,
+# and whether its body does nothing. The ghost members of an `impl`, and the ghost fields of a type, make up one that
+# has no name.
 class Function(NamedTuple):
     name: str | None
     type: str | None
@@ -28,7 +30,8 @@ DERIVED = re.compile(r"#\[derive\((.*)\)\]")
 
 # what a source or a file of definitions gives a name to, and the texts of a source, which name keys of formats
 OF_SOURCE = re.compile(r"\b(?:fn|struct|enum|trait|type|const|static|mod|impl|ensures|requires|ghost) +(\w+)"
-                       r"|^ +(?:pub(?:\([a-z]+\))? )?(\w+):|^ +([A-Z]\w*)(?:,$|\(| \{)|\"((?:[^\"\\\n]|\\.)*)\"", re.MULTILINE)
+                       r"|^ +(?:pub(?:\([a-z]+\))? )?(\w+):|^ +([A-Z]\w*)(?:,$|\(| \{)|\"((?:[^\"\\\n]|\\.)*)\"",
+                       re.MULTILINE)
 OF_DEFINITIONS = re.compile(r"^ *(?:(?:abbrev|unfoldable|data|record|pub|mutual) )*(\w+)(?: [({]| :|$)", re.MULTILINE)
 
 
@@ -41,11 +44,13 @@ def owner_of(line: str) -> tuple[str, str | None]:
     """The type and the trait of an `impl`. A `trait` is a type here."""
     word, rest = OWNER.findall(line)[0]
     trait, found, of = rest.partition(" for ")
-    return (base(of), trait.strip()) if found and word == "impl" else (base(rest.split(":")[0] if word == "trait" else rest), None)
+    return (base(of), trait.strip()) if found and word == "impl" else (base(rest.split(":")[0] if word == "trait"
+                                                                            else rest), None)
 
 
 def clauses_of(lines: list[str], indent: str) -> tuple[list[str | None], bool]:
-    """The names of the clauses of the function that begins with these lines, and whether its body does nothing but call laws."""
+    """The names of the clauses of the function that begins with these lines, and whether its body does nothing but call
+    laws."""
     clauses = []
     for place, line in enumerate(lines):
         clause = CLAUSE.match(line)
@@ -109,15 +114,18 @@ def written(crate: str) -> list[Function]:
 
 @functools.lru_cache(maxsize=None)
 def functions(crate: str) -> list[Function]:
-    """The functions of a crate. One of a trait without clauses of its own has those of the trait, if that is of the crate."""
+    """The functions of a crate. One of a trait without clauses of its own has those of the trait, if that is of the
+    crate."""
     of_trait = {(one.type, one.name): one.clauses for one in written(crate) if one.name and not one.trait}
-    return [one._replace(clauses=one.clauses or of_trait.get((base(one.trait or ""), one.name or ""), [])) for one in written(crate)]
+    return [one._replace(clauses=one.clauses or of_trait.get((base(one.trait or ""), one.name or ""), []))
+            for one in written(crate)]
 
 
 @functools.lru_cache(maxsize=None)
 def edits(crate: str) -> set[str]:
     """The names of the edits of a crate."""
-    return {path.stem for path in (CRATES / crate / "must-fail").iterdir()} if (CRATES / crate / "must-fail").is_dir() else set()
+    return {path.stem for path in (CRATES / crate / "must-fail").iterdir()} if (CRATES / crate
+                                                                                / "must-fail").is_dir() else set()
 
 
 @functools.lru_cache(maxsize=None)
@@ -153,12 +161,13 @@ def rests_on(paths: list[pathlib.Path]) -> set[pathlib.Path]:
 
 @functools.lru_cache(maxsize=None)
 def everywhere() -> set[str]:
-    """What has a name in any crate, and the words of crates.txt, of the tests but for this check, of the benches, of the examples, and
-    of the header, the packages and the tools."""
+    """What has a name in any crate, and the words of crates.txt, of the tests but for this check, of the benches, of
+    the examples, and of the header, the packages and the tools."""
     found = set(re.findall(r"\w+", (TOP / "crates.txt").read_text()))
     for crate in names():
         found |= defined(crate)
-    for path in (path for folder in ("tests", "bench", "examples", "services", "include", "bindings", "tools") for path in (TOP / folder).rglob("*")):
+    for path in (path for folder in ("tests", "bench", "examples", "services", "include", "bindings", "tools")
+                 for path in (TOP / folder).rglob("*")):
         if path.is_file() and path.suffix not in (".md", ".pyc") and path != TOP / "tests" / "documents" / "names.py":
             found.add(path.stem)
             found.update(re.findall(r"\w+", path.read_text(errors="replace")))

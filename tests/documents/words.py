@@ -38,8 +38,10 @@ def used(text):
 
 
 def main():
-    found = {page.relative_to(TOP).as_posix(): list(used(page.read_text(encoding="utf-8"))) for page in [*PAGES, *OF_FOLDERS, *MORE_PAGES]}
-    harness.end_of([reported(name, not faults, "\n".join(f"  {fault}" for fault in faults)) for name, faults in found.items()])
+    found = {page.relative_to(TOP).as_posix(): list(used(page.read_text(encoding="utf-8")))
+             for page in [*PAGES, *OF_FOLDERS, *MORE_PAGES]}
+    harness.end_of([reported(name, not faults, "\n".join(f"  {fault}" for fault in faults))
+                    for name, faults in found.items()])
 
 
 if __name__ == "__main__":

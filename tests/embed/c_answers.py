@@ -1,19 +1,26 @@
-"""c_answers.py: the library answers the examples to the byte, refuses by each number, and holds sites 1 to 1024, in 256 KB of stack.
+"""c_answers.py: the library answers the examples to the byte, refuses by each number, and holds sites 1 to 1024, in 256
+KB of stack.
 
-- The examples of examples/: the answers that their files have, of messages taken at once, one by one, and restored from a journal. What
-  the site reads in their lines, its journal and its newest messages are the lines of these files. What is kept of them and what is closed
+- The examples of examples/: the answers that their files have, of messages taken at once, one by one, and restored from
+a journal. What
+  the site reads in their lines, its journal and its newest messages are the lines of these files. What is kept of them
+  and what is closed
   are those of tests/oracle/keep.py.
 - The three sites of hub-morning, which exchange deltas, and the cases of examples/exchange that one delta decides.
 - Each number of the header once, with its place and with why, and each call on a handle without a site.
-- Why a call was refused, until the next call; parts of an answer; an evaluation; the name and the meaning of each of 256 numbers.
-- Texts and rooms without bytes, at an address and at none.
+- Why a call was refused, until the next call; parts of an answer; an evaluation; the name and the meaning of each of
+256 numbers.
+- Entries of one origin, in room for none of them, for some and for all. Digests, by hashlib.
+- Texts and rooms without bytes, at an address and at none, and objects over several lines.
 - Sites 1 to 1024 of the largest group. Each gives its message to site 1, and three are given all.
 - A site that holds 1,000 messages takes 2,000 more, and accepts as many.
 - Calls that only read, on a handle in a page that may not be written (only_reads.c).
 - What needs the most stack: 99,999 opening brackets, a recall of 100 transactions, and 20,000 messages.
-- The structures have their sizes. The library gives away the names of the header and no other, in the shared one under its version. It
+- The structures have their sizes. The library gives away the names of the header and no other, in the shared one under
+its version. It
   needs nothing but the C library, and no stack whose bytes run.
 """
+import hashlib
 import json
 import re
 import signal
@@ -21,8 +28,9 @@ from bench.generate import messages, samples
 from tests import harness
 from tests.embed import driving, model
 from tests.golden.examples import REPORTS
+from tests.golden.made_inputs import REPORT_WRITTEN, TRANSFER_WRITTEN
 from tests.harness import DATA, EXAMPLES, TOP, reported
-from tests.inputs import delta, instruction
+from tests.inputs import confirmation, delta, instruction
 from tests.oracle import keep, status
 
 CALLED = {"malloc", "realloc", "free", "memcpy", "memmove", "memset", "memcmp"}
@@ -34,6 +42,13 @@ HELD = 200, 6000  # messages
 # what only_reads.c writes: the answer, a part of it, the reason and the counts of a site that took two refused lines
 READ = b"answer 1 0 22 line 1: 31\nline 2: 33\n\npart 1 0 4 1: 3\nwhy 1 0 2 72\ncounts 1 0 0 0 0\n"
 EMPTY_DELTA = b"delta 2\nend 0\n"
+MOST_TEXT = 67108863  # bytes of a text of entries
+# the numbers of calls for entries that are refused, each with the place of the first that is not valid
+NO_ENTRIES = [((0, 0, 1), 1), ((1025, 0, 1), 1), ((65535, 0, 0), 1), ((1, 0, 0), 3), ((1, MOST, 0), 3),
+              ((1, 0, MOST_TEXT + 1), 3), ((1, 0, MOST), 3)]
+# and for digests, at a site of which one message at most is held of each site
+NO_DIGESTS = [((0, 0), 1), ((1025, 0), 1), ((65535, MOST), 1), ((1, 99), 2), ((2, 99), 2), ((1024, 1), 2),
+              ((1, MOST), 2)]
 # the size of each structure, and where its fields are, in the order of the header
 LAYOUT = b"""sct_site 16
 sct_outcome 32 0 1 8 16 24
@@ -44,7 +59,8 @@ sct_accepted 32 0 1 8 16 24
 
 
 def right(name, program, requests, wanted, words=()):
-    """Whether the replies to requests have these fields and texts. What a wanted reply does not name may be anything."""
+    """Whether the replies to requests have these fields and texts. What a wanted reply does not name may be
+    anything."""
     try:
         found = driving.asked(program, requests, words=words)
     except driving.Failed as failed:
@@ -52,7 +68,9 @@ def right(name, program, requests, wanted, words=()):
     for one, reply, (fields, text) in zip(requests, found, wanted):
         named = {field: reply.fields.get(field) for field in fields}
         if named != fields or text is not None and reply.text != text:
-            return reported(name, False, f"{one[:2]}: wanted {fields} {text and text[:200]!r}\n found {reply.fields} {reply.text[:200]!r}")
+            return reported(
+                name, False,
+                f"{one[:2]}: wanted {fields} {text and text[:200]!r}\n found {reply.fields} {reply.text[:200]!r}")
     return reported(name, len(found) == len(wanted))
 
 
@@ -76,7 +94,8 @@ def answers_of(stem):
         yield (name, 0), (OK, (EXAMPLES / (stem + suffix)).read_bytes())
     if stem in REPORTS:
         words = [word.encode() for word in REPORTS[stem]]
-        yield ("report", 0, *words, (EXAMPLES / (stem + ".list")).read_bytes()), (OK, (EXAMPLES / (stem + ".report")).read_bytes())
+        yield ("report", 0, *words,
+               (EXAMPLES / (stem + ".list")).read_bytes()), (OK, (EXAMPLES / (stem + ".report")).read_bytes())
     messages, _ = status.messages_in((EXAMPLES / (stem + ".jsonl")).read_bytes())
     for name, part in (("kept_text", keep.kept), ("closed_text", keep.closed)):
         yield (name, 0, LATER.encode()), (OK, status.archive_text(part(LATER, messages)).encode())
@@ -106,7 +125,8 @@ def example(program, stem):
 def lines_of_example(program, stem, lines, refused):
     """What a site reads in the lines of an example, takes of them into its journal, and has as its newest messages."""
     held = (EXAMPLES / (stem + ".archive")).read_bytes().splitlines(keepends=True)
-    requests = [("open", 0, 1, 1), ("reading_text", 0, lines), ("vector_text", 0), ("take_lines", 0, lines), ("journal_text", 0, 0),
+    requests = [("open", 0, 1, 1), ("reading_text", 0, lines), ("vector_text", 0),
+                ("take_lines", 0, lines), ("journal_text", 0, 0),
                 ("journal_text", 0, 2), ("newest_text", 0, MOST), ("newest_text", 0, 2), ("journal_text", 0, len(held)),
                 ("newest_text", 0, 0)]
     texts = [reply.text for reply in driving.asked(program, requests)]
@@ -116,8 +136,10 @@ def lines_of_example(program, stem, lines, refused):
     is_read = sorted(journal) == sorted(held) and b"".join(line for line in found if line not in journal) == refused
     places = [int(number) for number in re.findall(rb"^line (\d+):", texts[1], re.M)]
     numbers = [number for number, _ in status.lines_of(lines)]
-    in_place = [number for number, line in zip(numbers, found) if not line.startswith(b"{")] == places and len(numbers) == len(found)
-    wanted = [b"-", refused, b"".join(journal), b"".join(journal[2:]), b"".join(journal), b"".join(journal[-2:]), b"", b""]
+    in_place = [number for number, line in zip(numbers, found)
+                if not line.startswith(b"{")] == places and len(numbers) == len(found)
+    wanted = [b"-", refused, b"".join(journal), b"".join(journal[2:]), b"".join(journal), b"".join(journal[-2:]), b"",
+              b""]
     return reported(f"{stem}, line by line", is_read and in_place and texts[2:] == wanted, f"{texts}"[:2000])
 
 
@@ -136,13 +158,61 @@ def hub(program):
         wanted = (EXAMPLES / f"hub-morning.{suffix}").read_bytes()
         found = driving.asked(program, [*requests, *((name, site) for site in (1, 2, 3))])[-3:]
         yield reported(f"three sites of hub-morning, {name}", all(reply.text == wanted for reply in found))
-    looks = [("vector_text",), ("counts", 4), ("journal_text", 1), ("newest_text", 7)]
+    looks = [("vector_text",), ("counts", 4), ("journal_text", 1), ("newest_text", 7), ("entries", 2, 1, 900),
+             ("digest", 2, 3), ("digests_text",)]
     yield as_modelled("three sites of hub-morning, as the definitions say", program,
                       [*requests, *((name, site, *words) for name, *words in looks for site in (1, 2, 3))])
 
 
+def entries(program):
+    """What a site of two that holds two messages, and a third one of its peer, answers who asks for entries of one
+    site."""
+    one, two = TRANSFER_WRITTEN.encode(), REPORT_WRITTEN.encode()
+    first, second = b"delta 2\norigin 1 1 1\n" + one + b"end 1\n", b"delta 2\norigin 1 2 1\n" + two + b"end 1\n"
+    both = b"delta 2\norigin 1 1 2\n" + one + two + b"end 2\n"
+    rows = [((1, 0, 10 ** 6), both), ((1, 0, MOST_TEXT), both), ((1, 0, len(both)), both),
+            ((1, 0, len(both) - 1), first), ((1, 0, 1), first),
+            ((1, 1, 10 ** 6), second), ((1, 1, 1), second), ((1, 2, 100), EMPTY_DELTA), ((1, MOST, 100), EMPTY_DELTA),
+            ((2, 0, 100), delta(2, 1, 2)), ((2, 1, 100), EMPTY_DELTA), ((9, 0, 100), EMPTY_DELTA),
+            ((1024, 0, 100), EMPTY_DELTA)]
+    begin = [("open", 0, 1, 2), ("take", 0, instruction(1).encode()), ("take", 0, confirmation(1).encode()),
+             ("accept", 0, delta(2, 1, 2))]
+    yield right("entries of one origin", program, [*begin, *(("entries", 0, *numbers) for numbers, _ in rows)],
+                [({"ok": 1}, None)] * len(begin) + [({**OK, "length": len(text)}, text) for _, text in rows])
+    texts = [delta(1, 1, *range(1, count + 1)) for count in range(13)]
+    room = [(("entries", 1, 1, 0, len(texts[count]) + more), texts[count + min(0, more)]) for count in (8, 9, 10, 11)
+            for more in (-1, 0, 1)]
+    yield right("the room counts each byte, also where a number has more digits", program,
+                [("open", 1, 2, 2), ("accept", 1, texts[12]), *(call for call, _ in room)],
+                [({"ok": 1}, None)] * 2 + [({"ok": 1}, text) for _, text in room])
+
+
+def digests(program):
+    """What a site of two that holds two messages, and a third one of its peer, answers who asks for digests."""
+    none = bytes(32)
+    one = hashlib.sha256(none + TRANSFER_WRITTEN.encode()).digest()
+    two = hashlib.sha256(one + REPORT_WRITTEN.encode()).digest()
+    peer = hashlib.sha256(none + delta(2, 1, 2).split(b"\n", 2)[2].rpartition(b"end")[0]).digest()
+    rows = [((1, 0), none), ((1, 1), one), ((1, 2), two), ((2, 0), none), ((2, 1), peer), ((9, 0), none),
+            ((1024, 0), none)]
+    lines = b"1:2:%s\n2:1:%s\n" % (two.hex().encode(), peer.hex().encode())
+    begin = [("open", 0, 1, 2), ("take", 0, instruction(1).encode()), ("take", 0, confirmation(1).encode()),
+             ("accept", 0, delta(2, 1, 2))]
+    yield right("digests", program, [*begin, *(("digest", 0, *numbers) for numbers, _ in rows), ("digests_text", 0)],
+                [({"ok": 1}, None)] * len(begin) + [({**OK, "length": 64}, digest.hex().encode()) for _, digest in rows]
+                + [({**OK, "length": len(lines)}, lines)])
+    some = b"1:1:%s\n" % one.hex().encode()
+    yield right("digests, again and again", program,
+                [("open", 0, 1, 2), ("digests_text", 0), begin[1], ("digests_text", 0), ("digest", 0, 1, 1),
+                 *begin[2:], ("digests_text", 0),
+                 ("digest", 0, 1, 1)],
+                [({"ok": 1}, text) for text in (None, b"", None, some, one.hex().encode(), None, None, lines,
+                                                one.hex().encode())])
+
+
 def exchanged(program):
-    """A site of a journal and one delta, as the command `site` makes it, for each pair of files of tests/data/exchange."""
+    """A site of a journal and one delta, as the command `site` makes it, for each pair of files of
+    tests/data/exchange."""
     folder = DATA / "exchange"
     files = sorted(path for path in folder.iterdir() if path.suffix == "")
     journals = [path for path in files if not path.read_bytes().startswith(b"delta")]
@@ -150,7 +220,8 @@ def exchanged(program):
     requests = []
     for journal in journals:
         for text in deltas:
-            requests += [("restore", 0, 1, 2, journal.read_bytes(), text.read_bytes()), ("archive_text", 0), ("vector_text", 0)]
+            requests += [("restore", 0, 1, 2, journal.read_bytes(), text.read_bytes()), ("archive_text", 0),
+                         ("vector_text", 0)]
             requests += [("close", 0)]
     yield as_modelled(f"{len(journals)} journals with {len(deltas)} deltas each", program, requests)
 
@@ -171,8 +242,10 @@ def refused_takes():
     one, other = samples.transaction(), samples.transaction(CxlId="R2")
     less = {key: value for key, value in one.items() if key != "CxlId"}
     return [(b"{", 0, "31"), (b"", 0, "31"), (b"\xff", 0, "31"), (b"[]", 0, "32"), (b"{}", 0, "33"),
-            (samples.line(without).encode(), 0, "34 TxId"), (of(TxId=1), 0, "35 TxId"), (of(TxId="a_b"), 0, "36 TxId 3"),
-            (of(DbtrAcct="DE1"), 0, "36 DbtrAcct 2"), (of(Purp="SALA"), 0, '37 "Purp"'), (of(**{'a "b"\n': ""}), 0, r'37 "a \"b\"\n"'),
+            (samples.line(without).encode(), 0, "34 TxId"), (of(TxId=1), 0, "35 TxId"),
+            (of(TxId="a_b"), 0, "36 TxId 3"),
+            (of(DbtrAcct="DE1"), 0, "36 DbtrAcct 2"), (of(Purp="SALA"), 0, '37 "Purp"'),
+            (of(**{'a "b"\n': ""}), 0, r'37 "a \"b\"\n"'),
             (of(**{"\u00e9\u0001": ""}), 0, '37 "\u00e9\\u0001"'), (of(Ccy="USD"), 0, "38 11"), (recall(), 0, "46 0"),
             (recall(one, 7), 2, "46 2"), (recall(one, {**other, "Rsn": "fraud"}), 2, "56 2 36 Rsn 9"),
             (recall({**one, "CxlId": None}), 1, "56 1 35 CxlId"), (recall(one, other, less), 3, "56 3 34 CxlId"),
@@ -180,21 +253,28 @@ def refused_takes():
 
 
 def refused_calls():
-    """A call for each other number, or several: on handle 0, which holds two messages of site 1 of 3, on handle 1, which holds one of
-    site 2 and the first of site 1, and on handle 2, which is empty. Each with the number, the place, and why: None at no site."""
+    """A call for each other number, or several: on handle 0, which holds two messages of site 1 of 3, on handle 1,
+    which holds one of site 2 and the first of site 1, and on handle 2, which is empty. Each with the number, the place,
+    and why: None at no site."""
     header, items = b"DbtrAgt,TxId,Amt,Sts\n", [0] * (MOST_SITES + 1)
     yield from [(("accept", 1, delta(1, 3, 4)), 41, 0, "41 1 1 3"), (("accept", 1, delta(1, 1, 2)), 42, 0, "42 1 1"),
                 (("accept", 0, delta(1, 3, 4)), 43, 0, "43 3"), (("accept", 0, delta(1, 2, 2, 4)), 43, 0, "43 3"),
                 (("accept", 0, delta(4, 1, 4)), 44, 0, "44"), (("accept", 0, b""), 45, 1, "45 1"),
                 (("accept", 0, EMPTY_DELTA[:-2]), 45, 2, "45 2")]
-    yield from [(("counts", 0, len(items)), 44, 0, "45 2"), (("cut_above", 0, items), 44, 0, "44"), (("cut", 0, b"1"), 72, 0, "72"),
+    yield from [(("counts", 0, len(items)), 44, 0, "45 2"), (("cut_above", 0, items), 44, 0, "44"),
+                (("cut", 0, b"1"), 72, 0, "72"),
                 (("cut", 0, b""), 72, 0, "72")]
     yield from [(("open", 0, 1, 1), 71, 0, "72"), (("restore", 0, 1, 1, b"", EMPTY_DELTA), 71, 0, "72")]
-    yield from [(("report", 0, BANK, DAY, b""), 48, 1, "48 1"), (("report", 0, BANK, DAY, header + b"\nx\n"), 48, 2, "48 2"),
-                (("report", 0, b"bankdeff", DAY, header), 73, 1, "73 1"), (("report", 0, BANK, b"today", header), 73, 2, "73 2"),
+    yield from [(("entries", 0, *numbers), 73, place, f"73 {place}") for numbers, place in NO_ENTRIES]
+    yield from [(("digest", 0, *numbers), 73, place, f"73 {place}") for numbers, place in NO_DIGESTS]
+    yield from [(("report", 0, BANK, DAY, b""), 48, 1, "48 1"),
+                (("report", 0, BANK, DAY, header + b"\nx\n"), 48, 2, "48 2"),
+                (("report", 0, b"bankdeff", DAY, header), 73, 1, "73 1"),
+                (("report", 0, BANK, b"today", header), 73, 2, "73 2"),
                 (("kept_text", 0, b"2024-5-02"), 73, 1, "73 1"), (("closed_text", 0, b""), 73, 1, "73 1")]
     yield from [(("transfer_text", 0, b"", b"T1"), 73, 1, "73 1"), (("transfer_text", 0, BANK, b""), 73, 2, "73 2"),
-                (("messages_text", 0, b"BANK", b"T1"), 73, 1, "73 1"), (("messages_text", 0, BANK, b"T//1"), 73, 2, "73 2"),
+                (("messages_text", 0, b"BANK", b"T1"), 73, 1, "73 1"),
+                (("messages_text", 0, BANK, b"T//1"), 73, 2, "73 2"),
                 (("bank_totals", 0, b"X"), 73, 1, "73 1"), (("restore", 2, 0, 1, b"", EMPTY_DELTA), 44, 0, None)]
     for number, group in ((0, 1), (2, 1), (1, 0), (1025, 1025), (1, 1025), (65535, 65535)):
         yield ("open", 2, number, group), 44, 0, None
@@ -220,7 +300,8 @@ def refusals(program):
     """Each number once, with its place and with why, and what a refusal leaves as it was."""
     kept = [("open", 0, 1, 3), ("take", 0, instruction(1).encode()), ("take", 0, instruction(2).encode()),
             ("open", 1, 2, 3), ("take", 1, instruction(3).encode()), ("accept", 1, delta(1, 1, 1)), ("status_text", 0)]
-    refused = [*((("take", 0, json), int(why[:2]), place, why) for json, place, why in refused_takes()), *refused_calls()]
+    refused = [*((("take", 0, json), int(why[:2]), place, why) for json, place, why in refused_takes()),
+               *refused_calls()]
     length = driving.asked(program, kept)[-1].fields["length"]
     after = [("answer", 0, length), ("counts", 0, 3), ("counts", 1, 3), ("archive_text", 0), ("archive_text", 1)]
     as_was = driving.asked(program, [*kept, *after])[len(kept):]
@@ -228,7 +309,8 @@ def refusals(program):
     wanted = [({"ok": 1}, None)] * len(kept)
     wanted += [one for _, *which in refused for one in wanted_of(*which)]
     wanted += [(reply.fields, reply.text) for reply in as_was]
-    wanted = [(fields if fields.get("ok") else zeros(fields, one[0]), text) for one, (fields, text) in zip(requests, wanted)]
+    wanted = [(fields if fields.get("ok") else zeros(fields, one[0]), text)
+              for one, (fields, text) in zip(requests, wanted)]
     yield right(f"{len(refused)} refusals, which change nothing", program, requests, wanted)
     numbers = set(map(int, re.findall(r"^ \*     (\d+) [A-Z]", (TOP / "include" / "niluppang.h").read_text(), re.M)))
     met = {code for _, code, *_ in refused} | {65}  # memory runs out in c_growths.py
@@ -237,11 +319,14 @@ def refusals(program):
 
 def on_no_site():
     """Each call that needs a site."""
-    words = {"take": [b"{}"], "take_lines": [b""], "accept": [EMPTY_DELTA], "counts": [1], "cut": [b"-"], "cut_above": [[]],
-             "journal_text": [0], "newest_text": [1], "reading_text": [b"{}"], "report": [BANK, DAY, b""], "kept_text": [DAY],
-             "closed_text": [DAY], "transfer_text": [BANK, b"T1"], "messages_text": [BANK, b"T1"], "bank_totals": [BANK],
-             "answer": [0], "answer_part": [0, 1], "why": [10]}
-    texts = ["vector_text", "archive_text", "status_text", "totals_text", "contradictions_text", "changes", "evaluate", "answer_end"]
+    words = {
+        "take": [b"{}"], "take_lines": [b""], "accept": [EMPTY_DELTA], "counts": [1], "cut": [b"-"], "cut_above": [[]],
+        "entries": [1, 0, 1], "digest": [1, 0], "journal_text": [0], "newest_text": [1], "reading_text": [b"{}"],
+        "report": [BANK, DAY, b""], "kept_text": [DAY],
+        "closed_text": [DAY], "transfer_text": [BANK, b"T1"], "messages_text": [BANK, b"T1"], "bank_totals": [BANK],
+        "answer": [0], "answer_part": [0, 1], "why": [10]}
+    texts = ["vector_text", "digests_text", "archive_text", "status_text", "totals_text", "contradictions_text",
+             "changes", "evaluate", "answer_end"]
     return [*words.items(), *((name, []) for name in texts)]
 
 
@@ -251,20 +336,29 @@ def reasons(program):
     """Why the last call was refused: until the next one, and through the calls that leave it."""
     ask, none, told = ("why", 0, 100), ({**OK, "length": 0}, b""), ({**OK, "length": 7}, b"35 TxId")
     wrong = samples.line(samples.instruction(TxId=1)).encode()
-    silent = [("answer", 0, 0), ("answer_part", 0, 0, 1), ("answer_end", 0), ("counts", 0, 1), ("counts", 0, 1025), ("open", 0, 1, 1),
-              ("restore", 0, 1, 1, b"", b""), ("code_name", 0, 35, 0), ("why", 0, 6), ("take", 1, b"{}"), ("status_text", 1)]
-    done = [("take", 0, instruction(1).encode()), ("take", 0, instruction(1).encode()), ("take_lines", 0, b"{"), ("accept", 0, EMPTY_DELTA),
-            ("cut", 0, b"-"), ("cut_above", 0, []), ("report", 0, BANK, DAY, b"DbtrAgt,TxId,Amt,Sts\n"), ("transfer_text", 0, BANK, b"T1"),
-            ("messages_text", 0, BANK, b"T1"), ("bank_totals", 0, BANK), ("journal_text", 0, 0), ("newest_text", 0, 0), ("evaluate", 0),
-            ("kept_text", 0, DAY), ("closed_text", 0, DAY), ("reading_text", 0, b"{}"),
-            *((name, 0) for name in ("vector_text", "archive_text", "status_text", "totals_text", "contradictions_text", "changes"))]
+    silent = [("answer", 0, 0), ("answer_part", 0, 0, 1), ("answer_end", 0), ("counts", 0, 1),
+              ("counts", 0, 1025), ("open", 0, 1, 1),
+              ("restore", 0, 1, 1, b"", b""), ("code_name", 0, 35, 0), ("why", 0, 6), ("take", 1, b"{}"),
+              ("status_text", 1)]
+    done = [("take", 0, instruction(1).encode()), ("take", 0, instruction(1).encode()),
+            ("take_lines", 0, b"{"), ("accept", 0, EMPTY_DELTA),
+            ("cut", 0, b"-"), ("cut_above", 0, []), ("report", 0, BANK, DAY, b"DbtrAgt,TxId,Amt,Sts\n"),
+            ("transfer_text", 0, BANK, b"T1"),
+            ("messages_text", 0, BANK, b"T1"), ("bank_totals", 0, BANK), ("entries", 0, 1, 0, 1),
+            ("digest", 0, 1, 0), ("digests_text", 0),
+            ("journal_text", 0, 0), ("newest_text", 0, 0), ("evaluate", 0), ("kept_text", 0, DAY),
+            ("closed_text", 0, DAY), ("reading_text", 0, b"{}"),
+            *((name, 0) for name in ("vector_text", "archive_text", "status_text", "totals_text", "contradictions_text",
+                                     "changes"))]
     well, refused = ({"ok": 1}, None), (("take", 0, wrong), ({"ok": 0}, None))
     begin = [(("open", 0, 1, 1), well), (ask, none), (("open", 1, 1, 1), well)]
     kept = [pair for one in silent for pair in ((one, ({}, None)), (ask, told))]
     cleared = [pair for one in done for pair in (refused, (ask, told), (one, well), (ask, none))]
     again = [refused, (("close", 0), ({}, None)), (("restore", 0, 1, 1, b"{", b"x"), well), (ask, none)]
-    pairs = [*begin, refused, (ask, told), (("why", 0, 6), ({**OK, "length": 7}, b"")), (("why", 0, 7), told), *kept, *cleared, *again]
-    yield right(f"why, through {len(silent)} calls that leave it and {len(done)} that do not", program, *map(list, zip(*pairs)))
+    pairs = [*begin, refused, (ask, told), (("why", 0, 6), ({**OK, "length": 7}, b"")), (("why", 0, 7), told), *kept,
+             *cleared, *again]
+    yield right(f"why, through {len(silent)} calls that leave it and {len(done)} that do not", program,
+                *map(list, zip(*pairs)))
 
 
 def parts(program):
@@ -273,8 +367,10 @@ def parts(program):
     numbers = {1: 1, 2: 18, 3: 7, 4: 9}
     begin = [("open", 0, 5, 5)] + [("accept", 0, delta(origin, 1, *range(100 * origin, 100 * origin + many)))
                                    for origin, many in numbers.items()] + [("vector_text", 0)]
-    pieces = [(0, 16), (0, 17), (0, 5), (3, 4), (12, 4), (12, 5), (15, 1), (15, 9), (16, 0), (16, 9), (17, 9), (MOST, 9), (5, 0), (0, 0)]
-    pairs = [(("answer_part", 0, *one), ({**OK, "length": len(whole[one[0]:][:one[1]])}, whole[one[0]:][:one[1]])) for one in pieces]
+    pieces = [(0, 16), (0, 17), (0, 5), (3, 4), (12, 4), (12, 5), (15, 1), (15, 9), (16, 0), (16, 9), (17, 9),
+              (MOST, 9), (5, 0), (0, 0)]
+    pairs = [(("answer_part", 0, *one), ({**OK, "length": len(whole[one[0]:][:one[1]])}, whole[one[0]:][:one[1]]))
+             for one in pieces]
     asked = [(("evaluate", 0), ({**OK, "length": 16}, b"")), (("answer", 0, 16), ({**OK, "length": 16}, whole)),
              (("answer_end", 0), ({**OK, "length": 0}, b"")), (("answer", 0, 16), ({**OK, "length": 0}, b"")),
              (("answer_part", 0, 0, 9), ({**OK, "length": 0}, b"")), (("evaluate", 0), ({**OK, "length": 0}, b"")),
@@ -284,31 +380,51 @@ def parts(program):
     takes = [("take", 0, instruction(number).encode()) for number in range(1, 4)]
     evaluated = [*takes[:2], ("evaluate", 0), ("evaluate", 0), takes[2], ("evaluate", 0)]
     questions = [("changes", 0), ("transfer_text", 0, BANK, b"T1"), ("status_text", 0), ("changes", 0)]
-    yield as_modelled("answers after an evaluation", program, [("open", 0, 1, 1), ("changes", 0), *evaluated, *questions])
+    yield as_modelled("answers after an evaluation", program,
+                      [("open", 0, 1, 1), ("changes", 0), *evaluated, *questions])
 
 
 def numbers(program):
     """The name and the meaning of each number, in ample, in just enough and in too little room."""
     requests = [(name, 0, code, room) for name, place in (("code_name", 0), ("code_text", 1)) for code in range(256)
-                for room in (200, len(model.CODES.get(code, ("", ""))[place]), max(0, len(model.CODES.get(code, ("", ""))[place]) - 1))]
+                for room in (200, len(model.CODES.get(code, ("", ""))[place]),
+                             max(0, len(model.CODES.get(code, ("", ""))[place]) - 1))]
     yield as_modelled("the names and the meanings of 256 numbers", program, requests)
-    names = [reply.text for reply in driving.asked(program, [("code_name", 0, code, 99) for code in (31, 46, 73, 30, 255)])]
-    yield reported("three of the names", names == [b"NotJson", b"BadTransactions", b"BadArgument", b"", b""], f"{names}")
+    names = [reply.text for reply in driving.asked(program,
+                                                   [("code_name", 0, code, 99) for code in (31, 46, 73, 30, 255)])]
+    yield reported("three of the names", names == [b"NotJson", b"BadTransactions", b"BadArgument", b"", b""],
+                   f"{names}")
 
 
 def nothing(program):
     """Each call that takes a pointer, with nothing there."""
-    texts = [("take",), ("take_lines",), ("accept",), ("cut",), ("reading_text",), ("bank_totals",), ("kept_text",), ("closed_text",),
-             ("transfer_text", b""), ("transfer_text", BANK), ("messages_text", b""), ("messages_text", BANK), ("report", b"", b""),
+    texts = [("take",), ("take_lines",), ("accept",), ("cut",), ("reading_text",), ("bank_totals",),
+             ("kept_text",), ("closed_text",),
+             ("transfer_text", b""), ("transfer_text", BANK), ("messages_text", b""),
+             ("messages_text", BANK), ("report", b"", b""),
              ("report", BANK, b""), ("report", BANK, DAY), ("report", b"", DAY)]
     rooms = [("answer", 0), ("answer_part", 0, 0), ("answer_part", 9, 0), ("why", 0), ("counts", 0), ("cut_above", [])]
     requests = [("open", 0, 1, 2), ("take", 0, instruction(1).encode()), ("restore", 1, 2, 2, b"", b""),
-                ("restore", 2, 1, 2, instruction(1).encode(), b""), ("restore", 3, 1, 2, b"", delta(2, 1, 2)), ("answer", 1, 0)]
+                ("restore", 2, 1, 2, instruction(1).encode(), b""), ("restore", 3, 1, 2, b"", delta(2, 1, 2)),
+                ("answer", 1, 0)]
     requests += [(name, 0, *words, b"") for name, *words in texts] + [("status_text", 0)]
-    requests += [(name, 0, *words) for name, *words in rooms] + [("answer_end", 0)] + [(name, 0, *words) for name, *words in rooms]
-    requests += [("code_name", 0, 31, 0), ("code_text", 0, 31, 0), ("code_text", 0, 1, 0)] + [("vector_text", site) for site in range(4)]
+    requests += [(name, 0, *words) for name, *words in rooms] + [("answer_end", 0)] + [(name, 0, *words)
+                                                                                       for name, *words in rooms]
+    requests += [("code_name", 0, 31, 0), ("code_text", 0, 31, 0),
+                 ("code_text", 0, 1, 0)] + [("vector_text", site) for site in range(4)]
     for name, words in (("an address", ()), ("a null pointer", ("null",))):
         yield as_modelled(f"nothing at {name}", program, requests, words)
+
+
+def line_feeds(program):
+    """An object with line feeds and other white space around it and between its parts, as no line is. Of two equal keys
+    the last counts."""
+    spread = json.dumps(samples.instruction(), indent="\t", separators=(" \r\n,", "\t:\r\n "))
+    objects = [f" \r\n{spread}\t\n", spread.replace("{", '{\n"MsgNmId"\n:\nnull,', 1)]
+    requests = [("open", 0, 1, 1), *(("take", 0, one.encode()) for one in objects), ("archive_text", 0)]
+    wanted = [(OK, b""), ({"ok": 1, "is_repeat": 0}, b""), ({"ok": 1, "is_repeat": 1}, b""),
+              ({"ok": 1}, f"{written(1)}\n".encode())]
+    yield right("objects over several lines", program, requests, wanted)
 
 
 def sizes(program):
@@ -320,11 +436,14 @@ def sizes(program):
 def most_sites(program):
     """All sites of the largest group."""
     sites, whole = range(1, MOST_SITES + 1), [1, 2, 512, MOST_SITES]
-    requests = [("open", site, site, MOST_SITES) for site in sites] + [("take", site, instruction(site).encode()) for site in sites]
+    requests = [("open", site, site, MOST_SITES) for site in sites] + [("take", site, instruction(site).encode())
+                                                                       for site in sites]
     requests += [("accept", 1, delta(site, 1, site)) for site in sites[1:]]
-    everything = "delta 2\n" + "".join(f"origin {site} 1 1\n{written(site)}\n" for site in sites) + f"end {MOST_SITES}\n"
+    everything = "delta 2\n" + "".join(f"origin {site} 1 1\n{written(site)}\n"
+                                       for site in sites) + f"end {MOST_SITES}\n"
     requests += [("cut_above", 1, [0] * MOST_SITES)] + [("accept", site, everything.encode()) for site in whole[1:]]
-    asked = [(name, site, *words) for site in whole for name, *words in (["vector_text"], ["counts", MOST_SITES], ["status_text"])]
+    asked = [(name, site, *words) for site in whole
+             for name, *words in (["vector_text"], ["counts", MOST_SITES], ["status_text"])]
     vector = ",".join(f"{site}:1" for site in sites).encode()
     statuses = "".join(f"T|BANKDEFFXXX|{name}|PENDING\n" for name in sorted(f"T{site}" for site in sites)).encode()
     wanted = [({"ok": 1}, None)] * (3 * MOST_SITES - 1) + [({"ok": 1}, everything.encode())]
@@ -344,8 +463,11 @@ def deepest():
     yield "take_lines", 0, "".join(messages.lines(LONG)).encode()
     transactions = [samples.transaction(OrgnlTxId=f"T{place}", CxlId=f"R{place}") for place in range(100)]
     yield "take", 0, json.dumps(samples.recall(transactions)).encode()
-    yield from (("evaluate", 0), ("changes", 0), ("status_text", 0), ("totals_text", 0), ("archive_text", 0), ("contradictions_text", 0))
-    yield from (("journal_text", 0, 1), ("newest_text", 0, LONG), ("reading_text", 0, "".join(messages.lines(LONG)).encode()))
+    yield from (("evaluate", 0), ("changes", 0), ("status_text", 0), ("totals_text", 0), ("archive_text", 0),
+                ("contradictions_text", 0))
+    yield from (("entries", 0, 1, 0, MOST_TEXT), ("digest", 0, 1, 1), ("digests_text", 0), ("journal_text", 0, 1),
+                ("newest_text", 0, LONG))
+    yield "reading_text", 0, "".join(messages.lines(LONG)).encode()
     rows = "".join(f"BANKDEFF,T{place},1.00,PENDING\n" for place in range(5000))
     yield "report", 0, BANK, DAY, ("DbtrAgt,TxId,Amt,Sts\n" + rows).encode()
 
@@ -357,7 +479,8 @@ def little_stack(program):
     codes = [reply.fields["code"] for reply in found]
     yield reported("the deepest and the longest texts", codes == [0, 0, 31, 31] + [0] * (len(codes) - 4), f"{codes}")
     held = found[-1].text
-    more = [("accept", 1, held), ("status_text", 1), ("close", 1), ("restore", 1, 2, 2, b"", held), ("archive_text", 1), ("stack", 0)]
+    more = [("accept", 1, held), ("status_text", 1), ("close", 1), ("restore", 1, 2, 2, b"", held), ("archive_text", 1),
+            ("stack", 0)]
     found = driving.asked(program, [*requests[:2], *more])
     is_right = all(reply.fields.get("ok", 1) for reply in found) and found[-1].fields["bytes"] < STACK
     yield reported(f"the most stack used is {found[-1].fields['bytes'] // 1024} of 256 KB", is_right)
@@ -366,7 +489,8 @@ def little_stack(program):
 # ---- names
 
 def only_reads(folder):
-    """Calls that only read leave the handle as it is, so they may use one that cannot be written. A call that changes it is killed there."""
+    """Calls that only read leave the handle as it is, so they may use one that cannot be written. A call that changes
+    it is killed there."""
     if not driving.stands_in():
         program = driving.built(folder, driving.SOURCES / "only_reads.c", wraps=())
         read, ended = harness.run([program]), harness.run([program, "end"])
@@ -378,7 +502,8 @@ def names(folder):
     """What the libraries give away and need."""
     declared = set(re.findall(r"^\w+ (sct_version|sct_raw_\w+)\(", (TOP / "include" / "niluppang.h").read_text(), re.M))
     version = "NILUPPANG_" + ".".join((TOP / "VERSION").read_text().split(".")[:2])
-    for path, words, outside in (("libniluppang.a", ["--extern-only"], CALLED | OF_COMPILER), ("libniluppang.so", ["--dynamic"], CALLED)):
+    for path, words, outside in (("libniluppang.a", ["--extern-only"], CALLED | OF_COMPILER),
+                                 ("libniluppang.so", ["--dynamic"], CALLED)):
         lines = harness.run(["nm", *words, folder / path]).text.decode().splitlines()
         found = [line.split()[-2:] for line in lines if re.search(r" [A-Za-z] \S+$", line)]
         given = {name for kind, name in found if kind in "TDBRV"}
@@ -393,7 +518,8 @@ def names(folder):
     is_named = f"Library soname: [libniluppang.so.{version.partition('_')[2]}]" in soname and defined[1:] == [version]
     yield reported("the version of the names, and the soname", is_named, versions + soname)
     headers = harness.run(["readelf", "--program-headers", "--wide", folder / "libniluppang.so"]).text.decode()
-    yield reported("the shared library needs no stack that runs", re.search(r"GNU_STACK.* RW +0x", headers) is not None, headers)
+    yield reported("the shared library needs no stack that runs", re.search(r"GNU_STACK.* RW +0x", headers) is not None,
+                   headers)
 
 
 def asked_for(program, held):
@@ -401,24 +527,31 @@ def asked_for(program, held):
     lines = "".join(messages.lines(held)).encode()
     questions = [("transfer_text", 0, BANK, b"T1"), ("bank_totals", 0, BANK), ("changes", 0)]
     taken = [(("take", 0, instruction(number).encode()), question) for number, question in enumerate(questions, 1)]
-    requests = [("open", 0, 1, 1), ("take_lines", 0, lines), ("changes", 0), *(request for pair in taken for request in pair)]
+    requests = [("open", 0, 1, 1), ("take_lines", 0, lines), ("changes", 0),
+                *(request for pair in taken for request in pair)]
     replies = driving.asked(program, requests)
     whole = replies[1].fields["ok"] == 1 and replies[1].fields["fresh"] == held
     return whole, [reply.asked for reply in replies[4::2]]
 
 
 def progress(program):
-    """A site that holds 1,000 messages takes 2,000 more, accepts as many, and is restored. No call is out of memory for long."""
+    """A site that holds 1,000 messages takes 2,000 more, accepts as many, and is restored. No call is out of memory for
+    long."""
     lines = [instruction(number).encode() for number in range(1, 3002)]
     whole, rest = delta(2, 1, *range(4001, 6001)), delta(2, 2001, 6001)
-    steps = [(("open", 0, 1, 2), {}), (("take_lines", 0, b"".join(lines[:1000])), {"fresh": 1000, "repeats": 0, "refused": 0}),
+    steps = [(("open", 0, 1, 2), {}),
+             (("take_lines", 0, b"".join(lines[:1000])), {"fresh": 1000, "repeats": 0, "refused": 0}),
              (("take_lines", 0, b"".join(lines[1:3000])), {"fresh": 2000, "repeats": 999, "refused": 0}),
-             (("take", 0, lines[3000]), {"number": 3001}), (("accept", 0, whole), {"fresh": 2000}), (("accept", 0, rest), {"fresh": 1}),
-             (("take_lines", 0, b"".join(lines)), {"fresh": 0, "repeats": 3001}), (("restore", 1, 1, 2, b"".join(lines), whole), {})]
+             (("take", 0, lines[3000]), {"number": 3001}), (("accept", 0, whole), {"fresh": 2000}),
+             (("accept", 0, rest), {"fresh": 1}),
+             (("take_lines", 0, b"".join(lines)), {"fresh": 0, "repeats": 3001}),
+             (("restore", 1, 1, 2, b"".join(lines), whole), {})]
     wanted = [({"ok": 1, "code": 0, **fields}, b"" if call[0] != "open" else None) for call, fields in steps]
     asked = [("counts", 0, 2), ("counts", 1, 2)]
-    counts = [({"ok": 1}, b"".join(many.to_bytes(8, "little") for many in held)) for held in ([3001, 2001], [3001, 2000])]
-    yield right("3,001 messages taken and 2,001 accepted, in parts", program, [call for call, _ in steps] + asked, wanted + counts)
+    counts = [({"ok": 1}, b"".join(many.to_bytes(8, "little") for many in held))
+              for held in ([3001, 2001], [3001, 2000])]
+    yield right("3,001 messages taken and 2,001 accepted, in parts", program, [call for call, _ in steps] + asked,
+                wanted + counts)
 
 
 def costs(program):
@@ -426,7 +559,8 @@ def costs(program):
     (few_whole, few), (many_whole, many) = (asked_for(program, held) for held in HELD)
     yield reported(f"all {HELD} messages of a text are taken", few_whole and many_whole)
     grown = all(after <= 2 * before + 9 for before, after in zip(few, many))
-    yield reported(f"questions ask for memory {few} times with {HELD[0]} messages, and {many} times with {HELD[1]}", grown)
+    yield reported(f"questions ask for memory {few} times with {HELD[0]} messages, and {many} times with {HELD[1]}",
+                   grown)
 
 
 def examples(program):
@@ -447,7 +581,9 @@ def main():
     driving.end_if_missing()
     with driving.libraries() as folder:
         program = driving.built_driver(folder)
-        checks = examples, hub, exchanged, refusals, reasons, parts, numbers, nothing, sizes, most_sites, little_stack, progress, costs
+        checks = (examples, hub, entries, digests, exchanged, refusals, reasons, parts, numbers, nothing, line_feeds,
+                  sizes, most_sites, little_stack, progress,
+                  costs)
         found = [one for check in checks for one in done(check, program)]
         harness.end_of([*found, *only_reads(folder), *names(folder)])
 

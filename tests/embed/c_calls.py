@@ -1,13 +1,15 @@
 """c_calls.py: made-up calls in any order come to what the definitions say, with each access to memory checked.
 
-Usage: python3 -m tests.embed.c_calls [--seed N] [--cases N] [--long]   (default: the number of today, 20,000 calls; --long: 1,000,000)
+Usage: python3 -m tests.embed.c_calls [--seed N] [--cases N] [--long]
+The default is the number of today and 20,000 calls. With --long there are 1,000,000.
 
-A day is some hundred calls on the handles of a small group. Sites take and accept messages that confirm, recall and contradict each
-other, lines that are refused, deltas that are late, repeated, damaged and of another life of a site. They are asked all questions at any
-time, closed, opened anew and restored, and called on when they are closed. After each refusal they are asked why. In every second run a
-text or a room without bytes is a null pointer. The address sanitizer checks driver.c and what it gives the library, and finds memory that
-is lost. model.py has what each call must come to: no crate is in it. A tenth of a usual number of calls is made under valgrind too, which
-sees each access of the library itself. Each call has to be met, and each number but 65, both as it is and as a why.
+A day is some hundred calls on the handles of a small group. Sites take and accept messages that confirm, recall and
+contradict each other, lines that are refused, deltas that are late, repeated, damaged and of another life of a site.
+They are asked all questions at any time, closed, opened anew and restored, and called on when they are closed. After
+each refusal they are asked why. In every second run a text or a room without bytes is a null pointer. The address
+sanitizer checks driver.c and what it gives the library, and finds memory that is lost. model.py has what each call must
+come to: no crate is in it. A tenth of a usual number of calls is made under valgrind too, which sees each access of the
+library itself. Each call has to be met, and each number but 65, both as it is and as a why.
 """
 import argparse
 import collections
@@ -24,10 +26,14 @@ from tests.property.messages import BANKS, Pool, shuffled
 from tests.property.worlds import refused_list, refused_text
 
 USUAL, LONG, OF_VALGRIND, DAYS_OF_A_RUN = 20_000, 1_000_000, 2_000, 10
-CALLS = {"take": 24, "take_lines": 6, "accept": 16, "changes": 6, "transfer_text": 6, "messages_text": 4, "status_text": 5,
-         "archive_text": 3, "totals_text": 4, "contradictions_text": 3, "bank_totals": 4, "report": 4, "kept_text": 4, "closed_text": 3,
-         "counts": 3, "vector_text": 3, "cut": 4, "cut_above": 3, "journal_text": 4, "newest_text": 4, "reading_text": 4, "evaluate": 4,
-         "answer": 4, "answer_part": 6, "answer_end": 2, "why": 8, "code_name": 1, "code_text": 1, "close": 2, "open": 4, "restore": 4}
+CALLS = {"take": 24, "take_lines": 6, "accept": 16, "changes": 6, "transfer_text": 6,
+         "messages_text": 4, "status_text": 5,
+         "archive_text": 3, "totals_text": 4, "contradictions_text": 3, "bank_totals": 4, "report": 4,
+         "kept_text": 4, "closed_text": 3,
+         "counts": 3, "vector_text": 3, "cut": 4, "cut_above": 3, "entries": 5, "digest": 5, "digests_text": 4,
+         "journal_text": 4, "newest_text": 4, "reading_text": 4, "evaluate": 4,
+         "answer": 4, "answer_part": 6, "answer_end": 2, "why": 8, "code_name": 1, "code_text": 1, "close": 2,
+         "open": 4, "restore": 4}
 NUMBERS = [31, 32, 33, 34, 35, 36, 37, 38, 41, 42, 43, 44, 45, 46, 48, 56, 70, 71, 72, 73]
 REASONS = [f"why {number}" for number in NUMBERS if number not in (70, 71)]
 DAYS = ["2024-05-02", "2024-05-02", "2024-05-03", "2024-5-2", ""]
@@ -44,7 +50,8 @@ class Day:
         self.r, self.pool, self.group, self.calls = r, Pool(r), r.randint(1, 4), []
         self.messages = [self.pool.message() for _ in range(r.randint(3, 40))]
         self.lines = [shuffled(r, message) for message in self.messages]
-        self.handles = [model.Handle() for _ in range(self.group + 1)]  # the last has the number of the first: a second life
+        # the last has the number of the first: a second life
+        self.handles = [model.Handle() for _ in range(self.group + 1)]
         self.deltas = [b"delta 2\nend 0\n"]
         for place in range(len(self.handles)):
             self.call(place, "open", *self.site(place))
@@ -90,7 +97,8 @@ class Day:
         taker, giver = self.handles[place].site, r.choice(givers)
         above = {origin: len(log) for origin, log in taker.logs.items()} if taker else {}
         draw = r.random()
-        above = above if draw < 0.6 else {} if draw < 0.8 else {origin: r.randint(0, 3) for origin in range(1, self.group + 1)}
+        above = above if draw < 0.6 else {} if draw < 0.8 else {origin: r.randint(0, 3)
+                                                                for origin in range(1, self.group + 1)}
         self.deltas.append(exchange.delta_text(giver.above(above)).encode())
         return self.deltas[-1]
 
@@ -103,7 +111,8 @@ class Day:
             line = status.written(status.read_message(self.lines[0])).encode()
             return [b"delta 1\nentry %d %d %s\nend 1\n" % (r.randint(1, self.group + 1), r.randint(1, 3), line)]
         place = r.randrange(len(text))
-        return [r.choice([text[:place], text[:place] + r.choice([b"0", b"1", b"\n", b"\xff"]) + text[place + 1:], text + b"x", b""])]
+        return [r.choice([text[:place], text[:place] + r.choice([b"0", b"1", b"\n", b"\xff"]) + text[place + 1:],
+                          text + b"x", b""])]
 
     def counts(self):
         return [self.r.choice([0, 1, self.group, self.group + 3, 1024, 1025])]
@@ -115,7 +124,25 @@ class Day:
         return [",".join(f"{origin}:{self.r.choice([0, 1, 2, 5, 2 ** 64 - 1])}" for origin in origins).encode() or b"-"]
 
     def cut_above(self):
-        return [[self.r.choice([0, 1, 2, 2 ** 64 - 1]) for _ in range(self.r.choice([0, 1, self.group, self.group + 2, 1025]))]]
+        return [[self.r.choice([0, 1, 2, 2 ** 64 - 1])
+                 for _ in range(self.r.choice([0, 1, self.group, self.group + 2, 1025]))]]
+
+    def entries(self, place):
+        """Entries of some origin above some count, in room for none of them, for some or for all."""
+        site = self.handles[place].site
+        origin = self.r.choice([*range(1, self.group + 2), *range(1, self.group + 2), 0, 1024, 1025])
+        above = self.r.choice([0, 0, 1, site.have(origin) if site else 3, self.r.randint(0, 9), 2 ** 64 - 1])
+        whole = len(exchange.delta_text(site.above({other: 2 ** 64 for other in site.logs
+                                                    if other != origin})).encode()) if site else 999
+        return [origin, above,
+                self.r.choice([0, 1, 500, 1000, 2000, whole - 1, whole, whole, model.MOST_TEXT, model.MOST_TEXT + 1])]
+
+    def digest(self, place):
+        """The digest of some origin at some count, which the site may not hold."""
+        site = self.handles[place].site
+        origin = self.r.choice([*range(1, self.group + 2), *range(1, self.group + 2), 0, 1024, 1025])
+        have = site.have(origin) if site else 3
+        return [origin, self.r.choice([0, 1, have, have, self.r.randint(0, have), have + 1, 2 ** 64 - 1])]
 
     def bank(self):
         bank = self.r.choice(BANKS + ["NOBODYXX"]) if self.r.random() < 0.9 else self.r.choice(WRONG_BANKS)
@@ -131,14 +158,16 @@ class Day:
         return [self.bank()]
 
     def report(self):
-        rows = [[self.r.choice(BANKS), self.r.choice([*self.pool.transfers, "T,9"]), self.r.choice([*self.pool.amounts, "7"]),
+        rows = [[self.r.choice(BANKS), self.r.choice([*self.pool.transfers, "T,9"]),
+                 self.r.choice([*self.pool.amounts, "7"]),
                  self.r.choice(model.WORDS)] for _ in range(self.r.randint(0, 6))]
         if rows and self.r.random() < 0.15:
             self.r.choice(rows)[self.r.randrange(4)] = self.r.choice(["", "x", "-1"])
         text = "".join(",".join(f'"{field}"' if "," in field else field for field in row) + "\n" for row in rows)
         header = ",".join(model.HEADER) + "\n" if self.r.random() < 0.95 else ""
         data = (header + text).encode()
-        return [self.bank(), self.r.choice(DAYS).encode(), data if self.r.random() < 0.95 else data.replace(b"PEND", b"PEND\xff", 1)]
+        return [self.bank(), self.r.choice(DAYS).encode(),
+                data if self.r.random() < 0.95 else data.replace(b"PEND", b"PEND\xff", 1)]
 
     def kept_text(self):
         return [self.r.choice([*DAYS, "2024-05-04", "2024-06-01", "2024-06-01"]).encode()]
@@ -153,7 +182,8 @@ class Day:
         return [self.r.choice([0, 1, site.have(site.own) if site else 5, self.r.randint(0, 9), 2 ** 64 - 1])]
 
     def newest_text(self, place):
-        return [self.r.choice([0, 1, self.handles[place].many() if self.handles[place].site else 5, self.r.randint(0, 9), 2 ** 64 - 1])]
+        return [self.r.choice([0, 1, self.handles[place].many() if self.handles[place].site else 5,
+                               self.r.randint(0, 9), 2 ** 64 - 1])]
 
     def room(self, text):
         return self.r.choice([0, max(0, len(text) - 1), len(text), len(text) + 1, len(text) + 100])
@@ -163,7 +193,8 @@ class Day:
 
     def answer_part(self, place):
         length = len(self.handles[place].answer)
-        return [self.r.choice([0, self.r.randint(0, length), length, length + 1, 2 ** 64 - 1]), self.r.choice([0, 1, 20, length + 9])]
+        return [self.r.choice([0, self.r.randint(0, length), length, length + 1, 2 ** 64 - 1]),
+                self.r.choice([0, 1, 20, length + 9])]
 
     def why(self, place):
         return [self.room(self.handles[place].refused)]
@@ -189,7 +220,8 @@ class Day:
 
 
 # calls whose arguments go by what the handle has
-PLACED = ["accept", "answer", "answer_part", "why", "journal_text", "newest_text", "open", "restore"]
+PLACED = ["accept", "answer", "answer_part", "why", "digest", "entries", "journal_text", "newest_text", "open",
+          "restore"]
 
 
 def wrong(call, reply):
@@ -202,8 +234,10 @@ def wrong(call, reply):
 def ran(program, before, seed, days):
     """What some days met, and what is wrong or None."""
     calls = [call for day in days for call in Day(random.Random(f"{seed} {day}")).calls]
-    met = collections.Counter(call.request[0] for call in calls) + collections.Counter(call.fields.get("code") for call in calls)
-    met += collections.Counter(f"why {call.text[:2].decode()}" for call in calls if call.request[0] == "why" and call.text)
+    met = collections.Counter(call.request[0] for call in calls) + collections.Counter(call.fields.get("code")
+                                                                                       for call in calls)
+    met += collections.Counter(f"why {call.text[:2].decode()}" for call in calls if call.request[0] == "why"
+                               and call.text)
     words = ["null"] if days.start // DAYS_OF_A_RUN % 2 else []
     try:
         replies = driving.asked(program, [call.request for call in calls], before, words)
@@ -214,12 +248,14 @@ def ran(program, before, seed, days):
 
 
 def tried(program, before, seed, many):
-    """How many calls were made, what they met, and what is wrong with them. Days are made up until there are as many calls."""
+    """How many calls were made, what they met, and what is wrong with them. Days are made up until there are as many
+    calls."""
     made, met, failures, first = 0, collections.Counter(), [], 0
     workers = len(os.sched_getaffinity(0))
     with concurrent.futures.ProcessPoolExecutor(workers) as pool:
         while made < many:
-            parts = [range(first + place * DAYS_OF_A_RUN, first + (place + 1) * DAYS_OF_A_RUN) for place in range(workers)]
+            parts = [range(first + place * DAYS_OF_A_RUN, first + (place + 1) * DAYS_OF_A_RUN)
+                     for place in range(workers)]
             first = parts[-1].stop
             for number, found, failed in pool.map(ran, *zip(*((program, before, seed, part) for part in parts))):
                 made, met, failures = made + number, met + found, failures + [failed] * (failed is not None)
@@ -227,7 +263,8 @@ def tried(program, before, seed, many):
 
 
 def checked(name, program, before, seed, many):
-    """How many calls passed, and how many runs of them failed. All has to be met if there are as many calls as usual, or more."""
+    """How many calls passed, and how many runs of them failed. All has to be met if there are as many calls as usual,
+    or more."""
     made, met, failures = tried(program, before, seed, many)
     things = [*CALLS, *NUMBERS, *REASONS]
     print(f"{made} calls {name}: " + ", ".join(f"{thing} {met[thing]}" for thing in things), flush=True)
@@ -247,7 +284,8 @@ def main():
     print(f"python3 -m tests.embed.c_calls {' '.join(asked.words())}", flush=True)
     driving.end_if_missing()
     with driving.libraries() as folder:
-        numbers = [checked("under the address sanitizer", driving.built_driver(folder, *driving.CHECKED), (), asked.seed, many)]
+        numbers = [checked("under the address sanitizer", driving.built_driver(folder, *driving.CHECKED), (),
+                           asked.seed, many)]
         if shutil.which("valgrind"):
             plain = driving.built_driver(folder, "-O1", "-g", name="plain")
             numbers.append(checked("under valgrind", plain, driving.VALGRIND, asked.seed, min(many, OF_VALGRIND)))

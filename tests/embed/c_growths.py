@@ -1,11 +1,13 @@
-"""c_growths.py: each time that a call asks for memory it is refused in turn; the call answers 65, changes nothing, and is right again.
+"""c_growths.py: each time that a call asks for memory it is refused in turn; the call answers 65, changes nothing, and
+is right again.
 
-The site of each trial has taken and accepted messages that meet one another. Its view lags behind, its changes are watched, and it has
-an answer. Of each call it is counted how often it asks for memory. Then that time is refused, once alone and once with all that follow.
-The call must answer 65, or what it answers with ample memory. After 65 the counts, the answer and all texts are as before, and why is 65.
-After a `why` that was refused, why is what it was. Only `take_lines` may have taken its first messages. Made again, the call comes to
-what it comes to with ample memory, and so do all texts. The site is closed then, and holds no memory. A call that has to ask for memory
-and never does has failed, and so has one that asks for some and must not.
+The site of each trial has taken and accepted messages that meet one another. Its view lags behind, its changes are
+watched, and it has an answer. Of each call it is counted how often it asks for memory. Then that time is refused, once
+alone and once with all that follow. The call must answer 65, or what it answers with ample memory. After 65 the counts,
+the answer and all texts are as before, and why is 65. After a `why` that was refused, why is what it was. Only
+`take_lines` may have taken its first messages. Made again, the call comes to what it comes to with ample memory, and so
+do all texts. The site is closed then, and holds no memory. A call that has to ask for memory and never does has failed,
+and so has one that asks for some and must not.
 """
 import collections
 import os
@@ -30,9 +32,12 @@ def line(message):
 
 
 RECALLED = [samples.transaction(OrgnlTxId=f"T{place}", CxlId=f"R{place}") for place in range(1, 5)]
-EARLIER = [instruction(1).encode(), line(samples.confirmation()), instruction(2).encode(), line(samples.recall(RECALLED)),
-           line(samples.confirmation({"TxSts": "RJCT", "Rsn": "AC04"}, MsgId="C9")), line(samples.confirmation(OrgnlTxId="T2", MsgId="C9"))]
-LATER = [line(samples.instruction(MsgId="M3", TxId="T3", IntrBkSttlmAmt="2.00")), line(samples.request()), line(samples.payback())]
+EARLIER = [instruction(1).encode(), line(samples.confirmation()), instruction(2).encode(),
+           line(samples.recall(RECALLED)),
+           line(samples.confirmation({"TxSts": "RJCT", "Rsn": "AC04"}, MsgId="C9")),
+           line(samples.confirmation(OrgnlTxId="T2", MsgId="C9"))]
+LATER = [line(samples.instruction(MsgId="M3", TxId="T3", IntrBkSttlmAmt="2.00")), line(samples.request()),
+         line(samples.payback())]
 LINES = b"\n".join([line(samples.refusal()), b"{", line(samples.payback(RtrId="XP2", MsgId="P2")), EARLIER[0],
                     *(instruction(number).encode() for number in range(20, 60))]) + b"\n"
 LIST = "DbtrAgt,TxId,Amt,Sts\n" + "".join(f"BANKDEFF,T{place},1.00,PENDING\n" for place in range(1, 40))
@@ -42,16 +47,22 @@ REFUSED = line(samples.instruction(**{EXTRA: ""}))
 TEXTS = ["archive_text", "status_text", "totals_text", "contradictions_text", "vector_text"]
 
 CALLS = [
-    Tried("open", [1, GROUP], False), Tried("restore", [1, GROUP, b"\n".join(EARLIER + [b"{"]), delta(2, 1, 4, 5)], False),
-    Tried("take", [FRESH], True), Tried("take", [EARLIER[3]], True), Tried("take", [b'{"MsgNmId":"pacs.008","MsgId":7}'], True),
-    Tried("take_lines", [LINES], True), Tried("accept", [delta(2, 3, 6, 7, 8, 9)], True), Tried("accept", [delta(2, 3, 6, 7)[:-2]], True),
-    Tried("counts", [GROUP], True), Tried("vector_text", [], True), Tried("cut", [b"1:1,2:1"], True), Tried("cut_above", [[1]], True),
+    Tried("open", [1, GROUP], False),
+    Tried("restore", [1, GROUP, b"\n".join(EARLIER + [b"{"]), delta(2, 1, 4, 5)], False),
+    Tried("take", [FRESH], True), Tried("take", [EARLIER[3]], True),
+    Tried("take", [b'{"MsgNmId":"pacs.008","MsgId":7}'], True),
+    Tried("take_lines", [LINES], True), Tried("accept", [delta(2, 3, 6, 7, 8, 9)], True),
+    Tried("accept", [delta(2, 3, 6, 7)[:-2]], True),
+    Tried("counts", [GROUP], True), Tried("vector_text", [], True), Tried("cut", [b"1:1,2:1"], True),
+    Tried("cut_above", [[1]], True),
+    Tried("entries", [2, 1, 900], True), Tried("digest", [2, 1], True), Tried("digests_text", [], True),
     Tried("archive_text", [], True), Tried("status_text", [], True), Tried("totals_text", [], True),
     Tried("contradictions_text", [], True), Tried("report", [b"BANKDEFF", b"2024-05-02", LIST.encode()], True),
     Tried("kept_text", [b"2024-06-01"], True), Tried("closed_text", [b"2024-06-01"], True),
     Tried("transfer_text", [b"BANKDEFF", b"T1"], True), Tried("messages_text", [b"BANKDEFF", b"T1"], True),
     Tried("bank_totals", [b"BANKDEFF"], True), Tried("changes", [], True), Tried("journal_text", [2], True),
-    Tried("newest_text", [6], True), Tried("reading_text", [LINES], True), Tried("evaluate", [], True), Tried("why", [1 << 12], True),
+    Tried("newest_text", [6], True), Tried("reading_text", [LINES], True), Tried("evaluate", [], True),
+    Tried("why", [1 << 12], True),
     Tried("answer", [1 << 12], True), Tried("answer_part", [9, 1 << 12], True), Tried("answer_end", [], True),
     Tried("code_name", [35, 99], True), Tried("code_text", [35, 99], True), Tried("close", [], True)]
 
@@ -64,8 +75,10 @@ def site_of(tried):
     def takes(lines):
         return [("take", HANDLE, one) for one in lines]
 
-    return [("open", HANDLE, 1, GROUP), *takes(EARLIER[:2]), ("changes", HANDLE), ("status_text", HANDLE), *takes(EARLIER[2:]),
-            ("accept", HANDLE, delta(2, 1, 4, 5)), ("transfer_text", HANDLE, b"BANKDEFF", b"T2"), *takes(LATER), ("cut", HANDLE, b"1:3"),
+    return [("open", HANDLE, 1, GROUP), *takes(EARLIER[:2]), ("changes", HANDLE),
+            ("status_text", HANDLE), *takes(EARLIER[2:]),
+            ("accept", HANDLE, delta(2, 1, 4, 5)), ("transfer_text", HANDLE, b"BANKDEFF", b"T2"),
+            *takes(LATER), ("cut", HANDLE, b"1:3"),
             *takes([REFUSED] if tried.name == "why" else [])]
 
 
@@ -78,7 +91,8 @@ def reason_after(tried):
 
 def seen():
     """Requests for all that can be seen of a site. The first needs no memory."""
-    return [("answer", HANDLE, 1 << 16), ("counts", HANDLE, GROUP), *((name, HANDLE) for name in TEXTS), ("cut", HANDLE, b"-"),
+    return [("answer", HANDLE, 1 << 16), ("counts", HANDLE, GROUP),
+            *((name, HANDLE) for name in TEXTS), ("cut", HANDLE, b"-"),
             ("changes", HANDLE)]
 
 
@@ -88,7 +102,8 @@ def what(replies):
 
 
 class Trial:
-    """A call with ample memory: what can be seen before it and after it, what it comes to, and how often it asks for memory."""
+    """A call with ample memory: what can be seen before it and after it, what it comes to, and how often it asks for
+    memory."""
 
     def __init__(self, program, tried):
         self.program, self.tried, self.begin = program, tried, site_of(tried)
@@ -117,18 +132,21 @@ class Trial:
         if self.tried.name != "take_lines":
             return what(again) == self.before
         own = driving.counts_in(again[1].text)[0]
-        return again[0].text == self.before[0][1] and [reply.text for reply in again[2:2 + len(TEXTS)]] == self.partly_taken(own)
+        return again[0].text == self.before[0][1] and [reply.text
+                                                       for reply in again[2:2 + len(TEXTS)]] == self.partly_taken(own)
 
     def is_right_again(self, reply, after):
         """Whether the call made again comes to what it should, and all that is seen after it too."""
         if self.tried.name == "take_lines":
             counts = [reply.fields["fresh"] + reply.fields["repeats"], reply.fields["refused"], reply.text]
-            wanted = [self.reply.fields["fresh"] + self.reply.fields["repeats"], self.reply.fields["refused"], self.reply.text]
+            wanted = [self.reply.fields["fresh"] + self.reply.fields["repeats"], self.reply.fields["refused"],
+                      self.reply.text]
             return counts == wanted and what(after) == self.after
         return what([reply]) == what([self.reply]) and what(after) == self.after
 
     def requests(self, first, last):
-        """Requests that refuse these times of the call, ask why, and look at the site. On another site, they then make the call again."""
+        """Requests that refuse these times of the call, ask why, and look at the site. On another site, they then make
+        the call again."""
         refuse, close, why = ("refuse", HANDLE, first, last), ("close", HANDLE), ("why", HANDLE, 1 << 12)
         return [*self.begin, refuse, self.call, why, *seen(), close, ("held", HANDLE),
                 *self.begin, refuse, self.call, self.call, *seen(), close, ("held", HANDLE)]
@@ -157,15 +175,18 @@ class Trial:
         times = [(first, last) for first in range(1, self.reply.asked + 1) for last in (first, FOR_EVER)]
         replies = driving.asked(self.program, [one for pair in times for one in self.requests(*pair)])
         each = len(replies) // len(times) if times else 1
-        return collections.Counter(self.judged(first, replies[place * each:(place + 1) * each]) for place, (first, _) in enumerate(times))
+        return collections.Counter(self.judged(first, replies[place * each:(place + 1) * each])
+                                   for place, (first, _) in enumerate(times))
 
     def run(self):
         """Whether all trials of the call are right, which is printed."""
         ended = self.ends()
         wrong = sorted(set(ended) - {"refused", "no harm"})
-        name = f"{self.tried.name}, {self.reply.asked} times, {ended['refused']} refused, {ended['no harm']} without harm"
+        name = (
+            f"{self.tried.name}, {self.reply.asked} times, {ended['refused']} refused, {ended['no harm']} without harm")
         is_met = (self.reply.asked == 0) if self.tried.name in WITHOUT_MEMORY else ended["refused"] > 0
-        return reported(name, is_met and not wrong, "\n".join(wrong[:5]) or "no memory was asked for" if not is_met or wrong else "")
+        return reported(name, is_met and not wrong,
+                        "\n".join(wrong[:5]) or "no memory was asked for" if not is_met or wrong else "")
 
 
 def tried(program, one):

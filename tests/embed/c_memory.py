@@ -1,11 +1,11 @@
 """c_memory.py: a site that is closed gives all of its memory back, and a call that brings nothing keeps none.
 
-The driver counts the blocks of memory that are held, and their bytes. It has none of its own while it waits for a request. Each trial
-makes a site, uses it in one way and closes it. Some block is held before, and none after. A site is also used and closed by a handle to
-which it was moved. A site that is not made holds nothing.
+The driver counts the blocks of memory that are held, and their bytes. It has none of its own while it waits for a
+request. Each trial makes a site, uses it in one way and closes it. Some block is held before, and none after. A site is
+also used and closed by a handle to which it was moved. A site that is not made holds nothing.
 
-A call that is made again and again, and brings nothing new, keeps no memory: each refusal, each question, a repeat, a delta that the
-site holds. `answer_end` gives back what the answer had.
+A call that is made again and again, and brings nothing new, keeps no memory: each refusal, each question, a repeat, a
+delta that the site holds. `answer_end` gives back what the answer had.
 """
 from bench.generate import messages, samples
 from tests import harness
@@ -23,16 +23,25 @@ ACCEPTS = [("accept", 0, delta(2, 1, 11, 12, 13)), ("accept", 0, delta(3, 1, 21)
 REFUSED = [("take", 0, b"{"), ("take", 0, b'{"MsgNmId":"pacs.008","MsgId":7}'),
            ("take", 0, samples.line(samples.instruction(Purp="x")).encode()),
            ("take", 0, samples.line(samples.recall([{"CxlId": "R1"}])).encode()), ("take_lines", 0, b"nothing\n{}\n"),
-           ("accept", 0, delta(3, 9, 5)), ("accept", 0, delta(2, 1, 12)), ("accept", 0, delta(1, 999, 5)), ("accept", 0, delta(4, 1, 5)),
-           ("accept", 0, delta(2, 9, 5)[:-2]), ("accept", 0, b"x"), ("open", 0, 1, 3), ("restore", 0, 1, 3, LINES, delta(2, 1, 2)),
-           ("cut", 0, b"1"), ("cut_above", 0, [0] * 1025), ("report", 0, BANK, DAY, b"x"), ("report", 0, BANK, b"today", LIST),
-           ("transfer_text", 0, b"", b"T1"), ("messages_text", 0, BANK, b""), ("bank_totals", 0, b"X"), ("counts", 0, 1025),
-           ("kept_text", 0, b"today"), ("closed_text", 0, b"")]
+           ("accept", 0, delta(3, 9, 5)), ("accept", 0, delta(2, 1, 12)), ("accept", 0, delta(1, 999, 5)),
+           ("accept", 0, delta(4, 1, 5)),
+           ("accept", 0, delta(2, 9, 5)[:-2]), ("accept", 0, b"x"), ("open", 0, 1, 3),
+           ("restore", 0, 1, 3, LINES, delta(2, 1, 2)),
+           ("cut", 0, b"1"), ("cut_above", 0, [0] * 1025), ("report", 0, BANK, DAY, b"x"),
+           ("report", 0, BANK, b"today", LIST),
+           ("transfer_text", 0, b"", b"T1"), ("messages_text", 0, BANK, b""),
+           ("bank_totals", 0, b"X"), ("counts", 0, 1025),
+           ("kept_text", 0, b"today"), ("closed_text", 0, b""), ("entries", 0, 0, 0, 1), ("entries", 0, 1, 0, 0),
+           ("digest", 0, 0, 0), ("digest", 0, 1, 1 << 60)]
 REPEATS = [TAKES[0], ACCEPTS[0], ("accept", 0, b"delta 2\nend 0\n"), ("take_lines", 0, LINES)]
-QUESTIONS = [("vector_text", 0), ("archive_text", 0), ("status_text", 0), ("totals_text", 0), ("contradictions_text", 0),
-             ("changes", 0), ("evaluate", 0), ("cut", 0, b"1:3"), ("cut_above", 0, [2]), ("journal_text", 0, 2), ("newest_text", 0, 5),
-             ("reading_text", 0, LINES), ("report", 0, BANK, DAY, LIST), ("transfer_text", 0, BANK, b"T1"),
-             ("messages_text", 0, BANK, b"T1"), ("bank_totals", 0, BANK), ("kept_text", 0, DAY), ("closed_text", 0, b"2025-01-01"),
+QUESTIONS = [("vector_text", 0), ("archive_text", 0), ("status_text", 0),
+             ("totals_text", 0), ("contradictions_text", 0),
+             ("changes", 0), ("evaluate", 0), ("cut", 0, b"1:3"), ("cut_above", 0, [2]), ("entries", 0, 1, 2, 1000),
+             ("digest", 0, 1, 1), ("digests_text", 0),
+             ("journal_text", 0, 2), ("newest_text", 0, 5), ("reading_text", 0, LINES), ("report", 0, BANK, DAY, LIST),
+             ("transfer_text", 0, BANK, b"T1"),
+             ("messages_text", 0, BANK, b"T1"), ("bank_totals", 0, BANK), ("kept_text", 0, DAY),
+             ("closed_text", 0, b"2025-01-01"),
              ("why", 0, 99), ("answer", 0, 1 << 20), ("answer_part", 0, 1, 9), ("counts", 0, 3)]
 OPEN, CLOSE, HELD = ("open", 0, 1, 3), ("close", 0), ("held", 0)
 RESTORE = ("restore", 0, 1, 3, LINES, delta(2, 1, 11, 12))
@@ -79,7 +88,8 @@ def closed(program):
 
 
 def steady(program):
-    """Whether as much is held after many times of a call as after a few. A block has some bytes more if no smaller one is free."""
+    """Whether as much is held after many times of a call as after a few. A block has some bytes more if no smaller one
+    is free."""
     begin = [OPEN, *TAKES, *ACCEPTS, *QUESTIONS]
     for number, call in enumerate([*REFUSED, *REPEATS, *QUESTIONS], 1):
         few, many = (driving.asked(program, [*begin, *[call] * times, HELD])[-1].fields for times in (FEW, MANY))
@@ -89,7 +99,8 @@ def steady(program):
 
 def ended(program):
     """Whether `answer_end` gives back what the answer had, but for a few bytes of a block."""
-    asked, before, _, after = driving.asked(program, [OPEN, *TAKES, ("archive_text", 0), HELD, ("answer_end", 0), HELD])[-4:]
+    asked, before, _, after = driving.asked(program,
+                                            [OPEN, *TAKES, ("archive_text", 0), HELD, ("answer_end", 0), HELD])[-4:]
     length, back = asked.fields["length"], before.fields["bytes"] - after.fields["bytes"]
     return reported(f"the end of an answer of {length} bytes gives back {back}", back > length - BLOCK > 0)
 

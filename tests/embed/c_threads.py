@@ -1,7 +1,8 @@
 """c_threads.py: threads with a site each take, exchange and answer side by side, in 256 KB of stack each.
 
-threads.c runs three and two sites of hub-morning, round after round. Each text is the right one. It runs under the address sanitizer, and
-a few rounds under the thread checker of valgrind, which has to find nothing, and under its memory checker.
+threads.c runs three and two sites of hub-morning, round after round. Each text is the right one. It runs under the
+address sanitizer, and a few rounds under the thread checker of valgrind, which has to find nothing, and under its
+memory checker.
 """
 import shutil
 from tests import harness
@@ -29,7 +30,8 @@ def rounds(name, program, many, files, before=()):
     """Whether the threads print the right text."""
     answer = harness.run([*before, program, str(many), *files])
     right = answer == (statuses(files), b"", 0)
-    return reported(f"{len(files)} threads, {many} rounds, {name}", right, answer.errors.decode(errors="replace")[:4000])
+    return reported(f"{len(files)} threads, {many} rounds, {name}", right,
+                    answer.errors.decode(errors="replace")[:4000])
 
 
 def main():
@@ -40,7 +42,8 @@ def main():
         plain = driving.built(folder, driving.SOURCES / "threads.c", "-O1", "-g", wraps=())
         done = [rounds("under the address sanitizer", checked, ROUNDS, files) for files in (three, three[:2])]
         if shutil.which("valgrind"):
-            done += [rounds(f"under {before[0]} {before[2]}", plain, FEW, three, before) for before in (HELGRIND, driving.VALGRIND)]
+            done += [rounds(f"under {before[0]} {before[2]}", plain, FEW, three, before)
+                     for before in (HELGRIND, driving.VALGRIND)]
         else:
             print("skipped: there is no command valgrind on this machine: apt-get install valgrind", flush=True)
     harness.end_of(done)

@@ -48,7 +48,9 @@ static const struct form {
 } forms[] = {
     {"open", 2, 0, false},        {"restore", 2, 2, true},       {"close", 0, 0, false},        {"take", 0, 1, false},
     {"take_lines", 0, 1, true},   {"accept", 0, 1, false},       {"counts", 1, 0, false},       {"vector_text", 0, 0, true},
-    {"cut", 0, 1, true},          {"cut_above", 0, 1, true},     {"journal_text", 1, 0, true},  {"newest_text", 1, 0, true},
+    {"cut", 0, 1, true},          {"cut_above", 0, 1, true},     {"entries", 3, 0, true},
+    {"digest", 2, 0, true},       {"digests_text", 0, 0, true},
+    {"journal_text", 1, 0, true}, {"newest_text", 1, 0, true},
     {"reading_text", 0, 1, true}, {"evaluate", 0, 0, false},     {"archive_text", 0, 0, true},  {"status_text", 0, 0, true},
     {"totals_text", 0, 0, true},  {"contradictions_text", 0, 0, true}, {"report", 0, 3, true},  {"transfer_text", 0, 2, true},
     {"kept_text", 0, 1, true},    {"closed_text", 0, 1, true},
@@ -202,6 +204,9 @@ static sct_outcome outcome_of(const char *name, sct_site *site, const unsigned l
     if (is(name, "vector_text")) return sct_site_vector_text(site);
     if (is(name, "cut")) return sct_site_cut(site, t[0].at, t[0].length);
     if (is(name, "cut_above")) return sct_site_cut_above(site, (const uint64_t *)(void *)t[0].at, t[0].length / sizeof(uint64_t));
+    if (is(name, "entries")) return sct_site_entries(site, (uint16_t)n[0], n[1], n[2]);
+    if (is(name, "digest")) return sct_site_digest(site, (uint16_t)n[0], n[1]);
+    if (is(name, "digests_text")) return sct_site_digests_text(site);
     if (is(name, "journal_text")) return sct_site_journal_text(site, n[0]);
     if (is(name, "newest_text")) return sct_site_newest_text(site, n[0]);
     if (is(name, "reading_text")) return sct_site_reading_text(site, t[0].at, t[0].length);
@@ -362,7 +367,7 @@ static const struct form *form_of(const char *name) {
 static bool served(void) {
     char name[32];
     size_t handle;
-    unsigned long numbers[2] = {0};
+    unsigned long numbers[3] = {0};
     struct bytes texts[3] = {{NULL, 0}};
     if (scanf("%31s %zu", name, &handle) != 2) return false;
     const struct form *form = form_of(name);

@@ -1,8 +1,9 @@
 """driving.py: builds driver.c, writes its requests, and reads its replies.
 
-The library is the one that tools/library.py makes: of crates/sct_c/out/libsct_c.a, or of the static library that the variable SCT_C
-names. If the variable NILUPPANG_STANDIN is 1, it is tests/standin/library.c, a stand-in of the definitions. That tries the checks
-themselves: nothing is said of the library then. A program is built in a temporary folder, which has the libraries too.
+The library is the one that tools/library.py makes: of crates/sct_c/out/libsct_c.a, or of the static library that the
+variable SCT_C names. If the variable NILUPPANG_STANDIN is 1, it is tests/standin/library.c, a stand-in of the
+definitions. That tries the checks themselves: nothing is said of the library then. A program is built in a temporary
+folder, which has the libraries too.
 """
 from __future__ import annotations
 import collections
@@ -20,16 +21,19 @@ from tools import library
 
 SOURCES = pathlib.Path(__file__).resolve().parent
 WARNINGS = ["-Wall", "-Wextra", "-pedantic", "-Wcast-qual", "-Werror"]
-STANDARDS = {"gcc": ["-std=c99"], "clang": ["-std=c99"], "g++": ["-std=c++11", "-x", "c++"], "clang++": ["-std=c++11", "-x", "c++"]}
+STANDARDS = {"gcc": ["-std=c99"], "clang": ["-std=c99"], "g++": ["-std=c++11", "-x", "c++"],
+             "clang++": ["-std=c++11", "-x", "c++"]}
 WRAPPED = ["-Wl,--wrap=malloc,--wrap=calloc,--wrap=realloc,--wrap=free"]
 CHECKED = ["-O1", "-g", "-fsanitize=address,undefined", "-fno-sanitize-recover=all"]
-VALGRIND = ["valgrind", "--quiet", "--leak-check=full", "--show-leak-kinds=all", "--errors-for-leak-kinds=all", "--error-exitcode=9"]
+VALGRIND = ["valgrind", "--quiet", "--leak-check=full", "--show-leak-kinds=all", "--errors-for-leak-kinds=all",
+            "--error-exitcode=9"]
 
 OUTCOME = ("ok", "code", "place", "length", "reserved")
 FIELDS = collections.defaultdict(lambda: OUTCOME, {
     "take": ("ok", "code", "is_repeat", "place", "number", "reserved"),
     "take_lines": ("ok", "code", "place", "fresh", "repeats", "refused", "length", "reserved"),
-    "accept": ("ok", "code", "place", "fresh", "reserved"), "close": (), "version": ("version",), "stack": ("bytes",), "layout": (),
+    "accept": ("ok", "code", "place", "fresh", "reserved"), "close": (), "version": ("version",),
+    "stack": ("bytes",), "layout": (),
     "held": ("blocks", "bytes"), "move": (),
     "code_name": ("length",), "code_text": ("length",)})
 
@@ -46,7 +50,8 @@ def end_if_missing(*commands: Any) -> None:
     """Ends the check with one line if something is missing that it needs."""
     try:
         if stands_in():
-            print("program: the stand-in tests/standin/library.c of the definitions, since NILUPPANG_STANDIN is 1", flush=True)
+            print("program: the stand-in tests/standin/library.c of the definitions, since NILUPPANG_STANDIN is 1",
+                  flush=True)
         else:
             library.check_there()
     except library.Missing as missing:
@@ -65,8 +70,10 @@ def skip(why: Any) -> None:
 def make_stand_in(folder: Any) -> None:
     """Makes both libraries of the stand-in in a folder."""
     source = harness.STAND_IN.parent
-    words = ["-std=gnu11", "-O1", "-Wall", "-Wextra", "-Werror", "-fPIC", f"-I{TOP / 'include'}", f'-DSERVER="{source / "library.py"}"']
-    steps = [["gcc", *words, "-c", source / "library.c", "-o", "library.o"], ["ar", "rcsD", "libniluppang.a", "library.o"]]
+    words = ["-std=gnu11", "-O1", "-Wall", "-Wextra", "-Werror", "-fPIC", f"-I{TOP / 'include'}",
+             f'-DSERVER="{source / "library.py"}"']
+    steps = [["gcc", *words, "-c", source / "library.c", "-o", "library.o"],
+             ["ar", "rcsD", "libniluppang.a", "library.o"]]
     for step in steps:
         made = harness.run(step, cwd=folder)
         if made.status:
@@ -99,7 +106,8 @@ def built_driver(folder: Any, *words: Any, name: str = "driver") -> Any:
 # ---- requests and replies
 
 def request(name: Any, handle: int = 0, *arguments: Any) -> Any:
-    """A request: the name of a call, the number of a handle, and arguments, which are numbers, texts, or lists of counts."""
+    """A request: the name of a call, the number of a handle, and arguments, which are numbers, texts, or lists of
+    counts."""
     data = [struct.pack(f"={len(argument)}Q", *argument) if isinstance(argument, list) else
             argument.encode() if isinstance(argument, str) else argument for argument in arguments]
     words = [str(argument) if isinstance(argument, int) else str(len(argument)) for argument in data]
@@ -124,7 +132,8 @@ def replies(names: Any, data: Any) -> Any:
 
 
 def asked(program: Any, requests: Any, before: Any = (), words: Any = ()) -> Any:
-    """The replies to requests, each a tuple of a name, a handle and arguments. The driver must end well, and write no more."""
+    """The replies to requests, each a tuple of a name, a handle and arguments. The driver must end well, and write no
+    more."""
     answer = harness.run([*before, program, *words], b"".join(request(*one) for one in requests))
     names = [one[0] for one in requests if one[0] != "refuse"]
     try:
@@ -133,7 +142,8 @@ def asked(program: Any, requests: Any, before: Any = (), words: Any = ()) -> Any
         found, rest = None, answer.text[-200:]
     if answer.status or answer.errors or found is None or rest:
         text = answer.errors.decode(errors="replace")
-        raise Failed(f"{shlex.join(map(str, [*before, program]))} ended with status {answer.status}\n{text[:4000]}{rest[:200]!r}")
+        raise Failed(f"{shlex.join(map(str, [*before, program]))} ended with status "
+                     f"{answer.status}\n{text[:4000]}{rest[:200]!r}")
     return found
 
 

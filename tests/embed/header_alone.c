@@ -301,6 +301,18 @@ static void counts_of(struct life *life, uint64_t *counts, size_t items) {
     free(text.at);
 }
 
+static struct text entries(struct life *life, uint64_t origin, uint64_t above, uint64_t most) {
+    uint64_t numbers[] = {origin, above, most};
+    write_call("entries", life->number, 3, numbers, 0, NULL);
+    return answered_by(life, sct_site_entries(&life->site, (uint16_t)origin, above, most));
+}
+
+static struct text digest(struct life *life, uint64_t origin, uint64_t count) {
+    uint64_t numbers[] = {origin, count};
+    write_call("digest", life->number, 2, numbers, 0, NULL);
+    return answered_by(life, sct_site_digest(&life->site, (uint16_t)origin, count));
+}
+
 static struct text journal_text(struct life *life, uint64_t above) {
     write_call("journal_text", life->number, 1, &above, 0, NULL);
     return answered_by(life, sct_site_journal_text(&life->site, above));
@@ -344,6 +356,7 @@ static struct text asked(struct life *life, const char *name, sct_outcome (*ques
 static sct_outcome vector_of(sct_site *site) { return sct_site_vector_text(site); }
 static sct_outcome archive_of(sct_site *site) { return sct_site_archive_text(site); }
 static sct_outcome status_of(sct_site *site) { return sct_site_status_text(site); }
+static sct_outcome digests_of(sct_site *site) { return sct_site_digests_text(site); }
 static sct_outcome changes_of(sct_site *site) { return sct_site_changes(site); }
 
 /* ---- what happens at a hub */
@@ -411,7 +424,13 @@ static void come(struct life *life, struct text delta) {
 /* A site gives another one what that lacks, or what a wrong vector says. The delta may be lost, or come twice. */
 static void give(struct life *giver, struct life *taker, int group) {
     struct text delta;
-    if (below(3) > 0) {
+    if (below(4) == 0) {
+        uint64_t held[MOST_SITES], origin = 1 + below((uint64_t)group);
+        counts_of(taker, held, (size_t)group);
+        free(digest(taker, origin, below(1 + held[origin - 1])).at);
+        free(asked(taker, "digests_text", digests_of).at);
+        delta = entries(giver, origin, held[origin - 1], 1 + below(3000));
+    } else if (below(3) > 0) {
         struct text vector = asked(taker, "vector_text", vector_of);
         delta = cut(giver, vector);
         free(vector.at);

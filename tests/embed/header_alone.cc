@@ -175,6 +175,13 @@ class Life {
     string cut_above(const Numbers &counts) {
         return asked("cut_above", {}, {bytes(counts)}, [&] { return its_.cut_above(counts.data(), counts.size()); });
     }
+    string entries(uint16_t origin, uint64_t above, uint64_t most) {
+        return asked("entries", {origin, above, most}, {}, [&] { return its_.entries(origin, above, most); });
+    }
+    string digest(uint16_t origin, uint64_t count) {
+        return asked("digest", {origin, count}, {}, [&] { return its_.digest(origin, count); });
+    }
+    string digests_text() { return asked("digests_text", {}, {}, [&] { return its_.digests_text(); }); }
     string journal_text(uint64_t above) { return asked("journal_text", {above}, {}, [&] { return its_.journal_text(above); }); }
     string newest_text(uint64_t count) { return asked("newest_text", {count}, {}, [&] { return its_.newest_text(count); }); }
     string reading_text(const string &text) { return asked("reading_text", {}, {text}, [&] { return its_.reading_text(text); }); }
@@ -314,7 +321,13 @@ class Hub {
     void give(Life &giver, Life &taker) {
         Numbers counts(group_);
         for (uint64_t &count : counts) count = below(5);
-        const string delta = below(3) ? giver.cut(taker.vector_text()) : giver.cut_above(counts);
+        const uint16_t origin = static_cast<uint16_t>(below(group_) + 1);
+        const uint64_t held = taker.counts(group_)[origin - 1];
+        must(below(3) || taker.digest(origin, below(1 + held)).size() == 64, "a digest has another size");
+        must(below(3) || taker.digests_text().empty() == (taker.vector_text() == "-"), "a site that holds something has no digest");
+        const string delta = below(3)   ? giver.entries(origin, held, 1 + below(3000))
+                             : below(3) ? giver.cut(taker.vector_text())
+                                        : giver.cut_above(counts);
         if (below(4) == 0) taker.waiting.push_back(delta);
         if (below(4) > 0) taker.waiting.push_back(delta);
     }

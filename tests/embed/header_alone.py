@@ -1,10 +1,14 @@
-"""header_alone.py: what programs print that were written from the header alone, compared with the definitions. A part of c_examples.py.
+"""header_alone.py: what programs print that were written from the header alone, compared with the definitions. A part
+of c_examples.py.
 
-- nulls.c makes each call that takes a pointer with a null pointer and the length 0. As C and as C++ it is linked with the library, and with
+- nulls.c makes each call that takes a pointer with a null pointer and the length 0. As C and as C++ it is linked with
+the library, and with
   its stand-in, which ends the process if a function of the library is given a null pointer.
-- header_alone.c and header_alone.cc are hubs of three sites, which take the lines of hub-morning. Each of their calls, at random, comes to
+- header_alone.c and header_alone.cc are hubs of three sites, which take the lines of hub-morning. Each of their calls,
+at random, comes to
   what model.py has for it, with why, and the last answers are those of the example.
-- They are the commands `site`, `vector` and `cut` too, on the files of tests/data/exchange and on words that are refused.
+- They are the commands `site`, `vector` and `cut` too, on the files of tests/data/exchange and on words that are
+refused.
 
 All runs under the sanitizers for addresses and for undefined behaviour.
 """
@@ -23,12 +27,15 @@ from tests.oracle import exchange
 FILES = sorted(EXAMPLES.glob("hub-morning.site*"))
 CASES = DATA / "exchange"
 OTHER = samples.line(samples.instruction(MsgId="OTHER", TxId="OTHER")).strip()
-SEEDS, STEPS, RUNS = (1, 2, 3), 250, 30
-COMPILERS = {"header_alone.c": ["gcc", "clang"], "header_alone.cc": ["g++", "clang++"], "nulls.c": ["gcc", "clang", "g++", "clang++"]}
+SEEDS, STEPS, RUNS = (1, 2, 3, 4), 250, 30
+COMPILERS = {"header_alone.c": ["gcc", "clang"], "header_alone.cc": ["g++", "clang++"],
+             "nulls.c": ["gcc", "clang", "g++", "clang++"]}
 MORE = ["-Wshadow", "-Wconversion"]
 # what the calls of hubs must meet: calls, and the numbers of refusals
-TO_MEET = ["open", "restore", "close", "take", "take_lines", "accept", "counts", "cut", "cut_above", "vector_text", "journal_text",
-           "newest_text", "reading_text", "evaluate", "changes", "answer_end", "status_text", "archive_text", "kept_text", "closed_text",
+TO_MEET = ["open", "restore", "close", "take", "take_lines", "accept", "counts", "cut", "cut_above", "entries",
+           "digest", "digests_text", "vector_text",
+           "journal_text", "newest_text", "reading_text", "evaluate", "changes", "answer_end", "status_text",
+           "archive_text", "kept_text", "closed_text",
            "refused 41", "refused 42", "refused 43", "refused 45", "a repeat", "a delta again", "a cut that was kept"]
 
 
@@ -37,7 +44,8 @@ def programs(folder, source):
     for compiler in COMPILERS[source]:
         if shutil.which(compiler):
             name = f"{source} by {compiler}"
-            yield name, driving.built(folder, driving.SOURCES / source, *driving.CHECKED, *MORE, name=name.replace(" ", "_"), wraps=(),
+            yield name, driving.built(folder, driving.SOURCES / source, *driving.CHECKED, *MORE,
+                                      name=name.replace(" ", "_"), wraps=(),
                                       compiler=compiler)
 
 
@@ -46,7 +54,8 @@ def programs(folder, source):
 def results_of_nulls():
     """What nulls.c must print."""
     empty = {"take": [b""], "take_lines": [b""], "accept": [b""], "counts": [0], "cut": [b""], "reading_text": [b""],
-             "report": [b"", b"", b""], "kept_text": [b""], "closed_text": [b""], "transfer_text": [b"", b""], "messages_text": [b"", b""],
+             "report": [b"", b"", b""], "kept_text": [b""], "closed_text": [b""],
+             "transfer_text": [b"", b""], "messages_text": [b"", b""],
              "bank_totals": [b""], "cut_above": [[]]}
     last = [("answer", [0]), ("answer_part", [3, 0]), ("answer_end", []), ("answer", [0]), ("why", [0])]
     handle = model.Handle()
@@ -151,7 +160,8 @@ def hubs(name, program):
         calls = list(Transcript(answer.text).calls())
         met.update(thing for call in calls for thing in met_by(call))
         found = differences(calls)
-        yield reported(f"{name}, hub {seed}, {len(calls)} calls", not found and are_last_answers(calls), "".join(found[:1])[:2000])
+        yield reported(f"{name}, hub {seed}, {len(calls)} calls", not found and are_last_answers(calls),
+                       "".join(found[:1])[:2000])
     missing = [thing for thing in TO_MEET if thing not in met]
     yield reported(f"{name}, what hubs meet", not missing, f"{missing}")
 
@@ -165,16 +175,23 @@ def words_of(r, journals, deltas):
     return [command, site, "2", *have, r.choice(journals), *r.choices(deltas, k=r.randint(0, 4))]
 
 
-WRONG = [["site", "3", "2", "empty"], ["site", "0", "2", "empty"], ["site", "01", "2", "empty"], ["site", "1", "1025", "empty"],
-         ["cut", "1", "2", "1:0x", "empty"], ["cut", "1", "2", "2:1,1:1", "empty"], ["cut", "1", "2", "", "empty"], ["site", "1", "2"],
-         ["cut", "1", "2", "-"], ["vector", "1", "two", "empty"], ["site", "1", "2", "empty", "nowhere"], ["site", "1", "2", "nowhere"],
+WRONG = [["site", "3", "2", "empty"], ["site", "0", "2", "empty"], ["site", "01", "2", "empty"],
+         ["site", "1", "1025", "empty"],
+         ["cut", "1", "2", "1:0x", "empty"], ["cut", "1", "2", "2:1,1:1", "empty"],
+         ["cut", "1", "2", "", "empty"], ["site", "1", "2"],
+         ["cut", "1", "2", "-"], ["vector", "1", "two", "empty"], ["site", "1", "2", "empty", "nowhere"],
+         ["site", "1", "2", "nowhere"],
          ["vector", "1", "2", "folder"], ["site", "00", "2", "empty"], ["vector", "1", "1024", "empty", "empty"]]
 
 
-# a delta before an earlier one, which is then accepted in a second round, one that is too early, and a journal that lost or changed lines
-WORKED = [["site", "2", "2", "two", "second", "first"], ["site", "2", "2", "two", "second"], ["site", "2", "2", "two", "second", "second"],
-          ["vector", "2", "2", "two", "second", "first", "both"], ["site", "1", "2", "short", "both"], ["site", "1", "2", "other", "both"],
-          ["cut", "2", "2", "1:2", "two", "both"], ["site", "2", "2", "two", "damaged", "both", "second"], ["site", "2", "2", "lines"]]
+# a delta before an earlier one, which is then accepted in a second round, one that is too early, and a journal that
+# lost or changed lines
+WORKED = [["site", "2", "2", "two", "second", "first"], ["site", "2", "2", "two", "second"],
+          ["site", "2", "2", "two", "second", "second"],
+          ["vector", "2", "2", "two", "second", "first", "both"], ["site", "1", "2", "short", "both"],
+          ["site", "1", "2", "other", "both"],
+          ["cut", "2", "2", "1:2", "two", "both"], ["site", "2", "2", "two", "damaged", "both", "second"],
+          ["site", "2", "2", "lines"]]
 
 
 def made_files(folder):
@@ -184,8 +201,10 @@ def made_files(folder):
             shutil.copy(path, folder)
     place = pathlib.Path(folder)
     (place / "folder").mkdir()
-    more = {"empty": b"", "lines": (instruction(1) + "{}\n\n[]\n" + instruction(1)).encode(), "two": instruction(3).encode(),
-            "short": instruction(1).encode(), "other": (instruction(4) + instruction(2)).encode(), "first": delta(1, 1, 1),
+    more = {"empty": b"", "lines": (instruction(1) + "{}\n\n[]\n" + instruction(1)).encode(),
+            "two": instruction(3).encode(),
+            "short": instruction(1).encode(),
+            "other": (instruction(4) + instruction(2)).encode(), "first": delta(1, 1, 1),
             "second": delta(1, 2, 2), "both": delta(1, 1, 1, 2), "damaged": delta(1, 1, 1, 2)[:-2]}
     for name, data in more.items():
         (place / name).write_bytes(data)
@@ -203,11 +222,14 @@ def commands(name, program):
         wanted = [exchange.answer(words, folder) for words in cases]
         found = [harness.run([program, *words], cwd=folder) for words in cases]
     right = [(text.encode(), refused.encode(), status) for text, refused, status in wanted]
-    differ = [f"{words}\n wanted {one}\n found {other}" for words, one, other in zip(cases, right, found) if one != other]
+    differ = [f"{words}\n wanted {one}\n found {other}" for words, one, other in zip(cases, right, found)
+              if one != other]
     kinds = collections.Counter(status for _, _, status in wanted)
-    numbers = {line.split()[2] for _, refused, _ in wanted for line in refused.splitlines() if line.startswith("file") and ":" in line}
+    numbers = {line.split()[2] for _, refused, _ in wanted for line in refused.splitlines() if line.startswith("file")
+               and ":" in line}
     is_met = min(kinds[status] for status in (0, 1, 2)) > 3 and {"41", "42", "43", "45"} <= numbers
-    return reported(f"{name}, {len(cases)} commands", not differ and is_met, "".join(differ[:1])[:2000] or f"{kinds} {numbers}")
+    return reported(f"{name}, {len(cases)} commands", not differ and is_met,
+                    "".join(differ[:1])[:2000] or f"{kinds} {numbers}")
 
 
 def checks(folder):

@@ -1,4 +1,5 @@
-"""java.py: builds the Java package of bindings/java by its script, and runs its tests on the examples. Its jar is that of the release."""
+"""java.py: builds the Java package of bindings/java by its script, and runs its tests on the examples. Its jar is that
+of the release."""
 import io
 import pathlib
 import re
@@ -16,11 +17,13 @@ TIME = 1714644000  # 2024-05-02 10:00:00
 
 
 def is_of_release(path):
-    """Whether the jar of the release is the same when it is made again, and has the classes of a jar, sorted, with one time."""
+    """Whether the jar of the release is the same when it is made again, and has the classes of a jar, sorted, with one
+    time."""
     one, other = bindings.jar(TIME), bindings.jar(TIME)
     with zipfile.ZipFile(io.BytesIO(one)) as its, zipfile.ZipFile(path) as built:
         classes = {name: built.read(name) for name in built.namelist() if name.endswith(".class")}
-        same = its.namelist() == ["META-INF/MANIFEST.MF", *sorted(classes)] and all(its.read(name) == classes[name] for name in classes)
+        same = its.namelist() == ["META-INF/MANIFEST.MF",
+                                  *sorted(classes)] and all(its.read(name) == classes[name] for name in classes)
         is_one_time = {entry.date_time for entry in its.filelist} == {(2024, 5, 2, 10, 0, 0)}
     return reported("the jar of the release", one == other and len(classes) > 3 and same and is_one_time)
 

@@ -1,13 +1,14 @@
 """model.py: what each call of the C interface must come to, by the definitions alone.
 
-A handle has a site of tests/oracle/exchange.py, its journal, the answer that was made last, why the last call was refused, and what it
-held when its changes were asked for last. Each call returns the fields of its result by their names, and the text that it makes or copies,
-or None. Memory never runs out here.
+A handle has a site of tests/oracle/exchange.py, its journal, the answer that was made last, why the last call was
+refused, and what it held when its changes were asked for last. Each call returns the fields of its result by their
+names, and the text that it makes or copies, or None. Memory never runs out here.
 """
 import csv
 import io
 import struct
 from tests.oracle import exchange, keep, status
+from tests.oracle.digests import Chains
 from tests.oracle.status import by_transfer, contradicted, lines_of, standing, transfers
 from tests.property.views import touched
 
@@ -15,31 +16,29 @@ HEADER = ["DbtrAgt", "TxId", "Amt", "Sts"]
 REPORT_HEADER = ["DbtrAgt", "TxId", "Result", "ListAmt", "ListSts", "Amt", "Sts"]
 WORDS = ["ACCEPTED", "REJECTED", "RETURNED", "PENDING", "INVESTIGATED"]
 MOST_ITEMS = 1024
+MOST_TEXT = (64 << 20) - 1  # bytes of a text of entries, at most
 
 # the name and the meaning of each number
-CODES = {
-    31: ("NotJson", "the bytes are not one JSON text in UTF-8"),
-    32: ("NotObject", "the JSON text is not an object"),
-    33: ("UnknownKind", "MsgNmId is not a name of one of the six kinds of message"),
-    34: ("Missing", "a key that the kind needs is absent"),
-    35: ("NotText", "the value of a key is not a text"),
-    36: ("Element", "the text of a key is not of the key's type"),
-    37: ("Extra", "the object has a key that the kind does not have"),
-    38: ("Rule", "a rule of the kind is broken"),
-    41: ("Gap", "the delta begins after what the site holds of its origin"),
-    42: ("Fork", "the delta has another message under a number that the site holds"),
-    43: ("OwnAhead", "the delta has messages of this site that it does not hold: its journal lost some"),
-    44: ("BadSite", "there is no such site in a group of 1 to 1024 sites"),
-    45: ("BadDelta", "the text is not a delta: the place is that of its first wrong line"),
-    46: ("BadTransactions", "TxInf is not a list of 1 to 100 objects: the place is that of the first one that is no object, or 0"),
-    48: ("BadList", "the list is not valid: the place is that of its first wrong record, from 1 with the header"),
-    56: ("At", "the transaction of TxInf at the place has a fault"),
-    65: ("Memory", "out of memory; the call can be made again"),
-    70: ("Empty", "the handle has no site"),
-    71: ("Full", "the handle has a site already"),
-    72: ("BadVector", "the text is not a version vector"),
-    73: ("BadArgument", "a bank, an identification or a day is not valid: the place is that of the argument, from 1"),
-}
+CODES = {31: ("NotJson", "the bytes are not one JSON text in UTF-8"),
+         32: ("NotObject", "the JSON text is not an object"),
+         33: ("UnknownKind", "MsgNmId is not a name of one of the six kinds of message"),
+         34: ("Missing", "a key that the kind needs is absent"), 35: ("NotText", "the value of a key is not a text"),
+         36: ("Element", "the text of a key is not of the key's type"), 37: (
+             "Extra", "the object has a key that the kind does not have"), 38: ("Rule", "a rule of the kind is broken"),
+         41: ("Gap", "the delta begins after what the site holds of its origin"),
+         42: ("Fork", "the delta has another message under a number that the site holds"),
+         43: ("OwnAhead", "the delta has messages of this site that it does not hold: its journal lost some"),
+         44: ("BadSite", "there is no such site in a group of 1 to 1024 sites"),
+         45: ("BadDelta", "the text is not a delta: the place is that of its first wrong line"),
+         46: ("BadTransactions",
+              "TxInf is not a list of 1 to 100 objects: the place is that of the first one that is no object, or 0"),
+         48: ("BadList", "the list is not valid: the place is that of its first wrong record, from 1 with the header"),
+         56: ("At", "the transaction of TxInf at the place has a fault"),
+         65: ("Memory", "out of memory; the call can be made again"), 70: ("Empty", "the handle has no site"),
+         71: ("Full", "the handle has a site already"), 72: ("BadVector", "the text is not a version vector"),
+         73: ("BadArgument",
+              "a bank, an identification, a day, an origin, a count or a size is not valid: the place is that of "
+              "the argument, from 1")}
 PLACED = {45, 46, 48, 56, 73}  # the numbers that a place follows
 
 # all fields that a result may have
@@ -87,7 +86,8 @@ def lines_on(key, said, against):
     if not said:
         return f"T|{name}|UNKNOWN\n"
     word, found, recalls = standing(said, against)
-    return "".join([f"T|{name}|{word}\n", *(f"F|{name}|{one}\n" for one in found), *(f"R|{name}|{one}\n" for one in recalls)])
+    return "".join([f"T|{name}|{word}\n", *(f"F|{name}|{one}\n" for one in found),
+                    *(f"R|{name}|{one}\n" for one in recalls)])
 
 
 def all_lines(messages):
@@ -96,9 +96,17 @@ def all_lines(messages):
     return {key: lines_on(key, said, against) for key, said in by_transfer(messages).items()}
 
 
+def bank_line(messages, bank):
+    """The line of a bank in the totals text. A bank without totals has one too."""
+    lines = status.totals_text(messages).splitlines(keepends=True)
+    found = [line for line in lines if line.startswith(bank + "|")]
+    return found[0] if found else f"{bank}|0|0.00|0.00|0|0|0|0|0|0.00|0.00\n"
+
+
 def rows_in(text):
     """The rows of a list, each a transfer, cents and a word."""
-    lines = io.StringIO(text.decode("utf-8-sig", "surrogateescape"), newline="")  # no element has a byte that is not of UTF-8
+    # no element has a byte that is not of UTF-8
+    lines = io.StringIO(text.decode("utf-8-sig", "surrogateescape"), newline="")
     records = [record for record in csv.reader(lines) if record]
     if not records or records[0] != HEADER:
         raise Refusal("48 1")
@@ -144,7 +152,8 @@ def report_text(messages, bank, day, rows):
         word = standing(by[key], against)[0].partition("|")[0] if key in by else "UNKNOWN"
         cents, on = instructed.get(key, {}).get("IntrBkSttlmAmt"), [row for row in rows if row[0] == key]
         listed = [status.euros(on[0][1]), on[0][2]] if len(on) == 1 else ["", ""]
-        writer.writerow([*(part.decode() for part in key), result_of(on, word, cents), *listed, status.euros(cents) if cents else "", word])
+        writer.writerow([*(part.decode() for part in key), result_of(on, word, cents), *listed,
+                         status.euros(cents) if cents else "", word])
     return text.getvalue()
 
 
@@ -155,7 +164,7 @@ class Site(exchange.Site):
 
     def __init__(self, own, group):
         super().__init__(own, group)
-        self.arrivals = []
+        self.arrivals, self.chains = [], Chains(self.logs)
 
     def hold(self, origin, message):
         super().hold(origin, message)
@@ -183,7 +192,8 @@ def names_text(keys):
 
 
 def changes_text(before, now):
-    """The names of the transfers that arrivals touch, if these were held before them and after them. Nothing is held before the watch."""
+    """The names of the transfers that arrivals touch, if these were held before them and after them. Nothing is held
+    before the watch."""
     return names_text([] if before is None else sorted(touched(set(before), set(now) - set(before))))
 
 
@@ -209,7 +219,8 @@ class Handle:
             found, text = getattr(self, "copied" if name == "answer" else name)(*arguments)
             fields, why = {"ok": 1, "code": 0, **fields, **found}, b""
         except Refusal as refusal:
-            fields, why, text = {**fields, "ok": 0, "code": refusal.code, "place": refusal.place}, str(refusal).encode(), None
+            fields, why, text = ({**fields, "ok": 0, "code": refusal.code, "place": refusal.place},
+                                 str(refusal).encode(), None)
         if name not in SILENT:
             self.refused = why
         return fields, text
@@ -301,6 +312,25 @@ class Handle:
             raise Refusal("44")
         return self.made(exchange.delta_text(self.site.above(dict(enumerate(counts, 1)))))
 
+    def entries(self, origin, above, most):
+        limits = (1, exchange.MOST_SITES), (0, exchange.BELOW - 1), (1, MOST_TEXT)
+        for place, (number, (least, limit)) in enumerate(zip((origin, above, most), limits), 1):
+            if number is None or not least <= number <= limit:
+                raise Refusal(f"73 {place}")
+        return self.made(exchange.delta_text(self.site.entries(origin, above, most)))
+
+    def digest(self, origin, count):
+        for place, (number, least, limit) in enumerate([(origin, 1, exchange.MOST_SITES),
+                                                        (count, 0, exchange.BELOW - 1)], 1):
+            if number is None or not least <= number <= limit:
+                raise Refusal(f"73 {place}")
+        if count > self.site.have(origin):
+            raise Refusal("73 2")
+        return self.made(self.site.chains.of(origin)[count].hex())
+
+    def digests_text(self):
+        return self.made(self.site.chains.text())
+
     def journal_text(self, above):
         return self.made(lines_with(self.site.logs.get(self.site.own, [])[above:]))
 
@@ -350,10 +380,7 @@ class Handle:
         return self.made(status.archive_text([message for message in self.site.messages if key in transfers(message)]))
 
     def bank_totals(self, bank):
-        bank = element(status.bic, bank, 1)
-        lines = status.totals_text(self.site.messages).splitlines(keepends=True)
-        found = [line for line in lines if line.startswith(bank + "|")]
-        return self.made(found[0] if found else f"{bank}|0|0.00|0.00|0|0|0|0|0|0.00|0.00\n")
+        return self.made(bank_line(self.site.messages, element(status.bic, bank, 1)))
 
     def changes(self):
         before, self.watched = self.watched, frozenset(self.site.messages)

@@ -1,8 +1,9 @@
-"""operating.py: the files for operators of a hub: the unit of systemd, the server before a site, and the rules for a monitor.
+"""operating.py: the files for operators of a hub: the unit of systemd, the server before a site, and the rules for a
+monitor.
 
-systemd and Prometheus judge their files. Each rule is tried on made-up numbers: it warns when it must, and else not. nginx runs with the
-example between clients and an echo. It passes on what comes, and holds to its limit. Its logs lead from the port that a site sees to the
-client.
+systemd and Prometheus judge their files. Each rule is tried on made-up numbers: it warns when it must, and else not.
+nginx runs with the example between clients and an echo. It passes on what comes, and holds to its limit. Its logs lead
+from the port that a site sees to the client.
 """
 from __future__ import annotations
 import contextlib
@@ -34,12 +35,16 @@ def unit() -> Iterator[Any]:
     exposure = re.search(r"exposure level for \S+: ([\d.]+ \w+)", said)
     yield reported(f"the unit, with exposure {exposure and exposure.group(1)}", done.status == 0, said)
     text = UNIT.read_text()
-    wanted = ["Type=notify", "WatchdogSec=30", "Restart=on-failure", "RestartPreventExitStatus=2", "StateDirectoryMode=0700", "UMask=0077",
-              "ExecReload=/bin/kill -HUP $MAINPID", "KillMode=mixed", "LimitNOFILE=65536", "LimitCORE=0", "TimeoutStartSec=infinity"]
-    yield reported("lines of the unit", set(wanted) <= set(text.splitlines()), f"{sorted(set(wanted) - set(text.splitlines()))}")
+    wanted = ["Type=notify", "WatchdogSec=30", "Restart=on-failure", "RestartPreventExitStatus=2",
+              "StateDirectoryMode=0700", "UMask=0077",
+              "ExecReload=/bin/kill -HUP $MAINPID", "KillMode=mixed", "LimitNOFILE=65536", "LimitCORE=0",
+              "TimeoutStartSec=infinity"]
+    yield reported("lines of the unit", set(wanted) <= set(text.splitlines()),
+                   f"{sorted(set(wanted) - set(text.splitlines()))}")
     folder = re.search(r"^StateDirectory=(.*)$", text, re.M).group(1).replace("%i", "1")
     example = tomllib.loads((SYSTEM / "site.toml").read_text())
-    yield reported("the folder of the example is that of the unit", example["folder"] == f"/var/lib/{folder}" and example["site"] == 1)
+    yield reported("the folder of the example is that of the unit",
+                   example["folder"] == f"/var/lib/{folder}" and example["site"] == 1)
 
 
 def exec_start() -> Any:
@@ -54,12 +59,23 @@ def series(name: Any, **labels: Any) -> Any:
     return f"{name}{{{', '.join(f'{key}={json.dumps(text)}' for key, text in texts.items())}}}"
 
 
-UP, HALTED, WELL, FREE = series("up"), series("niluppang_is_halted"), series("niluppang_is_well"), series("niluppang_disk_free_bytes")
+UP, HALTED, WELL, FREE = (series("up"), series("niluppang_is_halted"), series("niluppang_is_well"),
+                          series("niluppang_disk_free_bytes"))
 HEARD, LAG = series("niluppang_peer_heard_seconds", peer="2"), series("niluppang_peer_lag_entries", peer="2")
-FORBIDDEN, RESTARTS, DELTAS = (series(f"niluppang_{name}_total") for name in ("forbidden", "process_restarts", "deltas"))
+FORBIDDEN, RESTARTS, DELTAS = (series(f"niluppang_{name}_total")
+                               for name in ("forbidden", "process_restarts", "deltas"))
+CERTIFICATE, REVOKED = (series("niluppang_certificate_seconds", file=file) for file in ("certificate", "crl"))
+FORK, FORKS, COMPARED = (series("niluppang_fork", origin="3"), series("niluppang_forks"),
+                         series("niluppang_peer_compared_seconds", peer="2"))
+WENT_BACK = series("niluppang_peer_record_is_wrong", peer="2")
+QUOTA, JUMPS = (series("niluppang_quota_used_ratio", client="lutefrpp", of="lines"),
+                series("niluppang_clock_jump_seconds_total"))
 # two hours of a site that is well, a number each quarter of a minute
-FINE = {UP: "1x480", HALTED: "0x480", WELL: "1x480", FREE: "50000000000x480", HEARD: "30x480", LAG: "0x480", FORBIDDEN: "0x480",
-        RESTARTS: "0x480", DELTAS: "0+1x480"}
+FINE = {UP: "1x480", HALTED: "0x480", WELL: "1x480", FREE: "50000000000x480", HEARD: "30x480",
+        LAG: "0x480", FORBIDDEN: "0x480",
+        RESTARTS: "0x480", DELTAS: "0+1x480", CERTIFICATE: "9000000x480", REVOKED: "900000x480", QUOTA: "0.5x480",
+        JUMPS: "0x480", WENT_BACK: "0x480",
+        FORKS: "0x480", COMPARED: "1x480"}
 # what differs from it, after how long, and which rules must warn then and no other
 SCENES = [
     ("all is well", {}, "2h", []),
@@ -84,6 +100,20 @@ SCENES = [
     ("a process ended once", {RESTARTS: "0x20 1x480"}, "10m", []),
     ("a site ends again and again", {DELTAS: "5x10 0x5 5x10 0x5 5x10 0x480"}, "15m", ["Restarts"]),
     ("a site was started again", {DELTAS: "5x10 0+1x480"}, "15m", []),
+    ("a certificate ends in 20 days", {CERTIFICATE: "1728000x480"}, "2h", ["CertificateEnds"]),
+    ("a certificate ends in 31 days", {CERTIFICATE: "2678400x480"}, "2h", []),
+    ("a list of revoked certificates ends today", {REVOKED: "80000x480"}, "2m", ["RevokedListEnds"]),
+    ("a list of revoked certificates ends in two days", {REVOKED: "172800x480"}, "2m", []),
+    ("a bank has used most of its day", {QUOTA: "0.85x480"}, "2m", ["QuotaNearlyUsed"]),
+    ("a bank has used much of its day", {QUOTA: "0.75x480"}, "2m", []),
+    ("a clock jumps", {JUMPS: "0x20 60x480"}, "6m", ["ClockJumped"]),
+    ("a clock is set by a second", {JUMPS: "0x20 1x480"}, "6m", []),
+    ("two sites hold different entries", {FORK: "17x480", FORKS: "1x480", WELL: "0x480"}, "2m", ["SitesDiffer"]),
+    ("a site halts since its own number forked", {FORK: "17x480", FORKS: "1x480", WELL: "0x480", HALTED: "1x480"}, "2m",
+     ["SiteHalted", "SitesDiffer"]),
+    ("a peer shows no digests any more", {COMPARED: "1x4 15+15x480"}, "12m", ["DigestsNotCompared"]),
+    ("a peer of an older version shows none", {COMPARED: None}, "12m", []),
+    ("the record of a peer went back", {WENT_BACK: "0x4 1x480"}, "2m", ["RecordWentBack"])
 ]
 
 
@@ -102,10 +132,12 @@ def rules(metrics: Any) -> Iterator[Any]:
     alerts = re.findall(r"^ +- alert: (\w+)$", text, re.M)
     with tempfile.TemporaryDirectory() as folder:
         test = pathlib.Path(folder, "rules.test.yml")
-        test.write_text(json.dumps({"rule_files": [str(path)], "evaluation_interval": "15s", "tests": [scene(*one) for one in SCENES]}))
+        test.write_text(json.dumps({"rule_files": [str(path)], "evaluation_interval": "15s",
+                                    "tests": [scene(*one) for one in SCENES]}))
         for words in ["check", "rules", path], ["test", "rules", test]:
             done = harness.run(["promtool", *words])
-            yield reported(f"promtool {' '.join(words[:2])}", done.status == 0, (done.text + done.errors).decode(errors="replace"))
+            yield reported(f"promtool {' '.join(words[:2])}", done.status == 0,
+                           (done.text + done.errors).decode(errors="replace"))
     warned = {alert for *_, names in SCENES for alert in names}
     yield reported("each rule warns in a scene", warned == set(alerts), f"{sorted(warned ^ set(alerts))}")
     right = [text.count(f" {word}") == len(alerts) for word in ("labels: {severity: ", "summary: ", "action: >-")]
@@ -113,7 +145,8 @@ def rules(metrics: Any) -> Iterator[Any]:
     used = {name for line in re.findall(r"^ +expr: (.*)$", text, re.M) for name in re.findall(r"niluppang_\w+", line)}
     if metrics:
         written = set(re.findall(r"^# TYPE (\w+) ", metrics, re.M))
-        yield reported("a site writes each number that a rule uses", used and used <= written, f"{sorted(used - written)}")
+        yield reported("a site writes each number that a rule uses", used and used <= written,
+                       f"{sorted(used - written)}")
 
 
 # ---- the server before a site
@@ -155,15 +188,17 @@ def passed(port: Any, source: str = "127.0.0.1") -> Any:
 def nginx(folder: Any, port: Any, behind: Any) -> Iterator[Any]:
     """nginx with the example, at other ports, and with its logs in a folder."""
     text = (SYSTEM / "nginx.conf").read_text()
-    others = {"listen 8700;": f"listen 127.0.0.1:{port};", "listen [::]:8700;": "", ":8701;": f":{behind};", "/var/log/nginx": str(folder)}
+    others = {"listen 8700;": f"listen 127.0.0.1:{port};", "listen [::]:8700;": "", ":8701;": f":{behind};",
+              "/var/log/nginx": str(folder)}
     for old, new in others.items():
         if old not in text:
             harness.stop(f"the example of nginx has no {old}")
         text = text.replace(old, new)
     (folder / "niluppang.conf").write_text(text)
     (folder / "nginx.conf").write_text(
-        f"include /usr/share/nginx/modules-available/mod-stream.conf;\ndaemon off;\npid {folder}/pid;\nerror_log {folder}/error.log;\n"
-        f"events {{ worker_connections 1024; }}\ninclude {folder}/niluppang.conf;\n")
+        "include /usr/share/nginx/modules-available/mod-stream.conf;\ndaemon off;\npid "
+        f"{folder}/pid;\nerror_log {folder}/error.log;\nevents {{ worker_connections 1024; }}\ninclude "
+        f"{folder}/niluppang.conf;\n")
     process = subprocess.Popen(["nginx", "-c", folder / "nginx.conf"], stderr=subprocess.DEVNULL)
     try:
         yield
@@ -189,7 +224,8 @@ def before() -> Iterator[Any]:
             sites.until(lambda: passed(port)[0].close() is None)
             echo.ports.clear()
             first = [passed(port) for _ in range(LIMIT)]
-            yield reported("what comes is passed on", all(data == SENT for _, data in first), f"{[data for _, data in first]}")
+            yield reported("what comes is passed on", all(data == SENT for _, data in first),
+                           f"{[data for _, data in first]}")
             yield reported("a connection too many is ended", passed(port)[1] == b"")
             yield reported("and one of another address is not", passed(port, "127.0.0.2")[1] != b"")
             ports = [its.getsockname()[1] for its, _ in first]
@@ -200,8 +236,10 @@ def before() -> Iterator[Any]:
                 its.close()
             sites.until(lambda: set(ports) <= set(joined(folder)[0]))
         found, rows = joined(folder)
-        yield reported("the logs lead from the port that a site sees to the client", len(seen) == LIMIT and seen.items() <= found.items())
+        yield reported("the logs lead from the port that a site sees to the client",
+                       len(seen) == LIMIT and seen.items() <= found.items())
         keys = {"ended", "connection", "address", "port", "seconds", "status", "received", "sent", "site"}
-        is_right = all(set(row) == keys for row in rows) and {row["address"] for row in rows} == {"127.0.0.1", "127.0.0.2"}
+        is_right = all(set(row) == keys for row in rows) and {row["address"] for row in rows} == {"127.0.0.1",
+                                                                                                  "127.0.0.2"}
         yield reported("what they have", is_right, f"{rows[:1]}")
         echo.server.close()

@@ -1,9 +1,11 @@
-"""packages.py: the Debian packages of the release have what they must, are the same bytes when they are made again, and come and go.
+"""packages.py: the Debian packages of the release have what they must, are the same bytes when they are made again, and
+come and go.
 
-They are made of the program, the library and the page that the gate proved. If these are not there, they are made of stand-ins of the
-definitions, and a line says so. As root the check installs them by dpkg on this machine, as it is seen through an overlay (roots.py). There
-the commands run, three sites and a site with the examples of its configuration answer, and systemd and nginx read their files. Then the
-packages are removed, and nothing is left but journals, and keys of others. operating.py tries the files for operators.
+They are made of the program, the library and the page that the gate proved. If these are not there, they are made of
+stand-ins of the definitions, and a line says so. As root the check installs them by dpkg on this machine, as it is seen
+through an overlay (roots.py). There the commands run, three sites and a site with the examples of its configuration
+answer, and systemd and nginx read their files. Then the packages are removed, and nothing is left but journals, and
+keys of others. operating.py tries the files for operators.
 """
 import contextlib
 import pathlib
@@ -34,14 +36,17 @@ WAIT = 60  # seconds for a site on the stand-in, beside other work
 # ---- what the packages are made of
 
 def stand_ins(folder):
-    """What is built, of the definitions: a program that starts their model, a library that asks it, and a page that has nothing."""
-    source, gcc = harness.STAND_IN.parent, ["gcc", "-std=gnu11", f"-I{TOP / 'include'}", f'-DSERVER="{STAND_INS}/tests/standin/library.py"']
+    """What is built, of the definitions: a program that starts their model, a library that asks it, and a page that has
+    nothing."""
+    source, gcc = (harness.STAND_IN.parent,
+                   ["gcc", "-std=gnu11", f"-I{TOP / 'include'}", f'-DSERVER="{STAND_INS}/tests/standin/library.py"'])
     subprocess.run([*gcc, "-x", "c", "-", "-o", folder / "sct_sites"], input=LAUNCHER.encode(), check=True)
     subprocess.run([*gcc, "-c", "-fPIC", source / "library.c", "-o", folder / "library.o"], check=True)
     (folder / "libniluppang.a").unlink(missing_ok=True)
     subprocess.run(["ar", "rcsD", folder / "libniluppang.a", folder / "library.o"], check=True)
     library.make_shared(folder)
-    return {"bin/sct_sites": (folder / "sct_sites").read_bytes(), package.PAGE: b"<!doctype html>\n", package.BUILD: b"of stand-ins\n",
+    return {"bin/sct_sites": (folder / "sct_sites").read_bytes(), package.PAGE: b"<!doctype html>\n",
+            package.BUILD: b"of stand-ins\n",
             **{"lib/" + name: (folder / name).read_bytes() for name in ("libniluppang.a", library.SONAME)}}
 
 
@@ -51,12 +56,14 @@ def built_twice(first, second):
         library.check_there(proves=False)
         return package.built(first), package.built(second)
     except library.Missing as missing:
-        print(f"skipped: the packages have stand-ins of the program, the library and the page, since {missing}", flush=True)
+        print(f"skipped: the packages have stand-ins of the program, the library and the page, since {missing}",
+              flush=True)
         return stand_ins(first), stand_ins(second)
 
 
 def made(folder):
-    """The packages, the files of the release, the files of its archive, and whether all is the same when it is made again."""
+    """The packages, the files of the release, the files of its archive, and whether all is the same when it is made
+    again."""
     folders = [folder / name for name in ("first", "second")]
     for one in folders:
         one.mkdir()
@@ -71,38 +78,48 @@ def made(folder):
 # ---- what is in them
 
 SHARED, LIBRARIES = "usr/share/niluppang/", "usr/lib/x86_64-linux-gnu/"
-DESK = ["ask_sqlite.py", "check_list.py", "codes.md", "explain.py", "fields.py", "from_iso20022.py", "list_from_csv.py", "load_sqlite.py",
-        "page_tables.py", "queries.sql"]
+DESK = ["ask_sqlite.py", "check_list.py", "codes.md", "explain.py", "fields.py", "from_iso20022.py",
+        "list_from_csv.py", "load_sqlite.py",
+        "page_tables.py", "queries.sql", "reasons.json", "seeking.py"]
 MODULES = ["__init__.py", "_errors.py", "_library.py", "_site.py", "_version.py", "py.typed"]
-# what each package has beside what all have; its mode is 0644 if MODES has no other. Below the folders of MORE it has other files, too
+# what each package has beside what all have; its mode is 0644 if MODES has no other. Below the folders of MORE it has
+# other files, too
 HAS = {
-    "niluppang": ["usr/bin/sct_sites", "usr/bin/niluppang", "usr/share/man/man1/sct_sites.1.gz", "usr/share/man/man1/niluppang.1.gz",
+    "niluppang": ["usr/bin/sct_sites", "usr/bin/niluppang", "usr/share/man/man1/sct_sites.1.gz",
+                  "usr/share/man/man1/niluppang.1.gz",
                   SHARED + "niluppang.html", SHARED + "desk/desk.sh",
                   *(f"{SHARED}desk/{name}" for name in DESK),
-                  *(f"usr/share/doc/niluppang/{name}" for name in ("BUILD", "README.md", "docs/users/hub.md", "examples/bank-day.jsonl"))],
+                  *(f"usr/share/doc/niluppang/{name}"
+                    for name in ("BUILD", "README.md", "docs/users/hub.md", "examples/bank-day.jsonl"))],
     "libniluppang0.3": [LIBRARIES + "libniluppang.so.0.3"],
     "libniluppang-dev": ["usr/include/niluppang.h", LIBRARIES + "libniluppang.a", LIBRARIES + "libniluppang.so",
                          LIBRARIES + "pkgconfig/niluppang.pc"],
     "python3-niluppang": [f"usr/lib/python3/dist-packages/niluppang/{name}" for name in MODULES],
-    "niluppang-hub": ["etc/niluppang", "usr/bin/niluppang-hub", "usr/bin/hubctl", "lib/systemd/system/niluppang-hub@.service",
-                      "usr/share/man/man1/niluppang-hub.1.gz", "usr/share/man/man1/hubctl.1.gz",
-                      *(f"{SHARED}services/hub/{name}" for name in ("main.py", "hubctl.py", "desk.html", "meanings.json", "codes.json")),
-                      *(f"usr/share/doc/niluppang-hub/examples/{name}" for name in ("alerts.yml", "dashboard.json", "nginx.conf")),
-                      *(f"usr/share/doc/niluppang-hub/examples/{name}" for name in ("certificates.sh", "roles.toml", "site.toml"))],
+    "niluppang-hub": [
+        "etc/niluppang", "usr/bin/niluppang-hub", "usr/bin/hubctl", "lib/systemd/system/niluppang-hub@.service",
+        "usr/share/man/man1/niluppang-hub.1.gz", "usr/share/man/man1/hubctl.1.gz",
+        *(f"{SHARED}services/hub/{name}"
+          for name in ("main.py", "hubctl.py", "desk.html", "meanings.json", "codes.json")),
+        *(f"usr/share/doc/niluppang-hub/examples/{name}" for name in ("alerts.yml", "dashboard.json", "nginx.conf")),
+        *(f"usr/share/doc/niluppang-hub/examples/{name}" for name in ("certificates.sh", "roles.toml", "site.toml"))]
 }
-MODES = {"usr/bin/sct_sites": 0o755, "usr/bin/niluppang-hub": 0o755, "usr/bin/hubctl": 0o755, SHARED + "desk/desk.sh": 0o755,
+MODES = {"usr/bin/sct_sites": 0o755, "usr/bin/niluppang-hub": 0o755, "usr/bin/hubctl": 0o755,
+         SHARED + "desk/desk.sh": 0o755,
          "usr/bin/niluppang": 0o777, "usr/share/man/man1/niluppang.1.gz": 0o777,
          "usr/share/doc/niluppang-hub/examples/certificates.sh": 0o755, "etc/niluppang": 0o750,
          LIBRARIES + "libniluppang.so": 0o777, "usr/share/man/man1/hubctl.1.gz": 0o777}
-MORE = {"niluppang": ("usr/share/doc/niluppang/",), "niluppang-hub": (SHARED + "services/hub/", "usr/share/doc/niluppang-hub/examples/")}
+MORE = {"niluppang": ("usr/share/doc/niluppang/",),
+        "niluppang-hub": (SHARED + "services/hub/", "usr/share/doc/niluppang-hub/examples/")}
 LIBC, NUMBER = r"libc6 \(>= 2\.\d+\)", re.escape(library.VERSION + "-1")
 # section and architecture of each package, and what it depends on, as a pattern
 FIELDS = {
     "niluppang": ("utils", "amd64", LIBC), "libniluppang0.3": ("libs", "amd64", LIBC),
     "libniluppang-dev": ("libdevel", "amd64", rf"libniluppang0\.3 \(= {NUMBER}\), libc6-dev"),
-    "python3-niluppang": ("python", "all", rf"libniluppang0\.3 \(>= {re.escape(library.VERSION)}\), python3 \(>= 3\.8\)"),
-    "niluppang-hub": ("net", "all", rf"niluppang \(= {NUMBER}\), python3-niluppang \(= {NUMBER}\), python3 \(>= 3\.11\), "
-                      r"python3-aiohttp \(>= 3\.8\.4-1\+deb12u2\), adduser"),
+    "python3-niluppang": ("python", "all",
+                          rf"libniluppang0\.3 \(>= {re.escape(library.VERSION)}\), python3 \(>= 3\.8\)"),
+    "niluppang-hub": ("net", "all",
+                      rf"niluppang \(= {NUMBER}\), python3-niluppang \(= {NUMBER}\), python3 \(>= 3\.11\), "
+                      r"python3-aiohttp \(>= 3\.8\.4-1\+deb12u2\), adduser")
 }
 
 
@@ -132,12 +149,14 @@ def contents(deb):
     modes, right = {path: one.mode for path, one, _ in found}, [*HAS[name], *in_common(name)]
     lacking = {path for path in right if modes.get(path) != MODES.get(path, 0o644)}
     others = {path: one for path, one, _ in found if path not in right}
-    wrong = {path for path, one in others.items() if one.mode != (0o755 if one.isdir() or path.endswith(".sh") else 0o644)}
+    wrong = {path for path, one in others.items()
+             if one.mode != (0o755 if one.isdir() or path.endswith(".sh") else 0o644)}
     wrong |= {path for path, one in others.items() if not one.isdir() and not path.startswith(MORE.get(name, ()))}
     yield reported(f"files of {name}", not lacking | wrong, f"{sorted(lacking)} {sorted(wrong)}")
     paths, owners = list(modes), {(one.uid, one.gid, one.uname, one.gname) for _, one, _ in found}
     is_one_time = len({one.mtime for _, one, _ in found}) == 1
-    yield reported(f"order, owners and times in {name}", paths == sorted(paths) and owners == {(0, 0, "root", "root")} and is_one_time)
+    yield reported(f"order, owners and times in {name}",
+                   paths == sorted(paths) and owners == {(0, 0, "root", "root")} and is_one_time)
 
 
 def fields(deb):
@@ -146,9 +165,11 @@ def fields(deb):
     found = dict(line.split(": ", 1) for line in re.sub(r"\n ", " ", text).splitlines())
     section, architecture, depends = FIELDS[named(deb)]
     size = sum(-(-len(data) // 1024) if data is not None else 1 for _, _, data in entries(deb))
-    right = {"Package": named(deb), "Version": library.VERSION + "-1", "Maintainer": "Niluppang <niluppang@localhost>", "Section": section,
+    right = {"Package": named(deb), "Version": library.VERSION + "-1",
+             "Maintainer": "Niluppang <niluppang@localhost>", "Section": section,
              "Priority": "optional", "Architecture": architecture, "Installed-Size": str(size)}
-    is_right = right.items() <= found.items() and re.fullmatch(depends, found["Depends"]) and len(found["Description"]) > 100
+    is_right = right.items() <= found.items() and re.fullmatch(depends,
+                                                               found["Depends"]) and len(found["Description"]) > 100
     return reported(f"fields of {named(deb)}", bool(is_right), text)
 
 
@@ -156,15 +177,18 @@ def fields(deb):
 SAME = {"usr/bin/sct_sites": "bin/sct_sites", LIBRARIES + library.SONAME: "lib/" + library.SONAME,
         LIBRARIES + "libniluppang.a": "lib/libniluppang.a", "usr/include/niluppang.h": "include/niluppang.h",
         "usr/lib/python3/dist-packages/niluppang/_site.py": "share/niluppang/python/niluppang/_site.py",
-        SHARED + "services/hub/main.py": "share/niluppang/services/hub/main.py", SHARED + "niluppang.html": package.PAGE,
+        SHARED + "services/hub/main.py": "share/niluppang/services/hub/main.py",
+        SHARED + "niluppang.html": package.PAGE,
         SHARED + "desk/explain.py": "share/niluppang/desk/explain.py"}
 
 
 def same_bytes(debs, archive):
     """Whether the files of packages are those of the archive, and all of services/hub is there."""
     place = {path: data for deb in debs for path, _, data in entries(deb)}
-    yield reported("the bytes are those of the archive", all(place[path] == archive[other] for path, other in SAME.items()))
-    hub = {path: data for path, data in archive.items() if path.startswith("share/niluppang/services/hub/") and not path.endswith(".1")}
+    yield reported("the bytes are those of the archive",
+                   all(place[path] == archive[other] for path, other in SAME.items()))
+    hub = {path: data for path, data in archive.items() if path.startswith("share/niluppang/services/hub/")
+           and not path.endswith(".1")}
     lost = [path for path, data in hub.items() if data not in place.values()]
     yield reported("all of services/hub is in a package", not lost, f"{lost}")
     said = [data.decode() for path, data in place.items() if path.endswith("/copyright")]
@@ -185,7 +209,8 @@ def listed(release, archive):
     lost = [path for path in archive if not any(is_in(path, one) for one in paths)]
     empty = [one for one in paths if not any(is_in(path, one) for path in archive)]
     yield reported("what the archive has, and package.py lists", not lost and not empty, f"{lost} {empty}")
-    there = ["java/build.sh", "java/src/niluppang/Site.java", *(f"services/hub/system/{path.name}" for path in operating.SYSTEM.iterdir())]
+    there = ["java/build.sh", "java/src/niluppang/Site.java",
+             *(f"services/hub/system/{path.name}" for path in operating.SYSTEM.iterdir())]
     lacking = [path for path in there if f"share/niluppang/{path}" not in archive]
     yield reported("Java and the files for operators are in the archive", not lacking, f"{lacking}")
     sums = {line.split("  ")[1] for line in release[package.SUMS].decode().splitlines()}
@@ -210,8 +235,10 @@ def brought(root, debs):
         shutil.copy(deb, place)
     for name in "dpkg installs the packages", "and again":
         yield root.does(name, "dpkg", "--install", *paths_of(debs))
-    yield reported("what is installed is what was packed", root.run("dpkg", "--verify", *map(named, debs)) == (b"", b"", 0))
-    compiled = [root.path / folder / "__pycache__" for folder in (SHARED + "services/hub", "usr/lib/python3/dist-packages/niluppang")]
+    yield reported("what is installed is what was packed",
+                   root.run("dpkg", "--verify", *map(named, debs)) == (b"", b"", 0))
+    compiled = [root.path / folder / "__pycache__"
+                for folder in (SHARED + "services/hub", "usr/lib/python3/dist-packages/niluppang")]
     yield reported("modules are compiled", all(path.is_dir() for path in compiled))
     wants = list((root.path / "etc/systemd/system").rglob("niluppang*"))
     yield reported("no unit is enabled", not wants, f"{wants}")
@@ -228,7 +255,8 @@ def commands(root):
     day, status = (EXAMPLES / "bank-day.jsonl").read_bytes(), (EXAMPLES / "bank-day.status").read_bytes()
     for name in "sct_sites", "niluppang":
         yield reported(name, root.run(name, "status", data=day) == (status, b"", 0))
-    ask = "import niluppang, sys; it = niluppang.Site(1, 1); it.take_lines(sys.stdin.buffer.read()); print(it.status_text(), end='')"
+    ask = ("import niluppang, sys; it = niluppang.Site(1, 1); it.take_lines(sys.stdin.buffer.read()); "
+           "print(it.status_text(), end='')")
     yield reported("the Python package", root.run("python3", "-c", ask, data=day) == (status, b"", 0))
     desk = root.run(f"/{SHARED}desk/desk.sh", "/tmp/niluppang-day", "/usr/share/doc/niluppang/examples/bank-day.jsonl")
     written = root.path / "tmp/niluppang-day/day.status"
@@ -261,16 +289,19 @@ def read_by_others(root):
     with open(root.path / "etc/nginx/nginx.conf", "a") as file:
         file.write("include /etc/nginx/niluppang.conf;\n")
     yield root.does("nginx -t", "nginx", "-t")
-    yield reported("pages of the manual", all(root.run("man", "-w", name).status == 0 for name in ("sct_sites", "niluppang", "niluppang-hub", "hubctl")))
+    yield reported("pages of the manual", all(root.run("man", "-w", name).status == 0
+                                              for name in ("sct_sites", "niluppang", "niluppang-hub", "hubctl")))
 
 
 # ---- sites in a root
 
 @contextlib.contextmanager
 def started(root, *words, **variables):
-    """A process there of the user of the sites, which ends before the block does. What it wrote is printed if it ended badly."""
+    """A process there of the user of the sites, which ends before the block does. What it wrote is printed if it ended
+    badly."""
     with tempfile.TemporaryFile() as log:
-        process = subprocess.Popen(root.words("niluppang", *words), env={**roots.PLAIN, **variables}, stdout=log, stderr=log)
+        process = subprocess.Popen(root.words("niluppang", *words), env={**roots.PLAIN, **variables}, stdout=log,
+                                   stderr=log)
         try:
             yield process
         finally:
@@ -301,8 +332,10 @@ def three(root, metrics):
         done = root.run(*first, "post", "--seconds", "20", "-", data=LINE + b"\n")
         yield reported("a message at the first", done.status == 0, done.errors.decode())
         yield reported("is at the last", sites.until(lambda: root.run(*last, "vector").text == b"1:1\n", WAIT))
-        done = root.run(*first, "xml", "--seconds", "20", "/usr/share/doc/niluppang/examples/desk/iso20022/pacs.008.xml")
-        yield reported("messages in XML, by the tools of the desk", b"taken 2, repeats 0, waiting 0, refused 1," in done.text, str(done))
+        done = root.run(*first, "xml", "--seconds", "20",
+                        "/usr/share/doc/niluppang/examples/desk/iso20022/pacs.008.xml")
+        yield reported("messages in XML, by the tools of the desk",
+                       b"taken 2, repeats 0, waiting 0, refused 1," in done.text, str(done))
         metrics.append(sites.asked(port, "/metrics").body.decode())
     yield reported("they end in peace", hub.returncode == 0, f"{hub.returncode}")
 
@@ -342,7 +375,8 @@ def heard(its, site, *wanted):
 
 
 def settled(root, port):
-    """The configuration of a site of the examples, as the manual page has it: certificates, roles, who may read them."""
+    """The configuration of a site of the examples, as the manual page has it: certificates, roles, who may read
+    them."""
     doc, etc = "/usr/share/doc/niluppang-hub/examples", root.path / "etc/niluppang"
     for words in ["site1.hub.example", "127.0.0.1"], ["desk.hub.example"], ["stranger.example"]:
         yield root.does(f"a certificate of {words[0]}", f"{doc}/certificates.sh", "/etc/niluppang", *words)
@@ -359,13 +393,16 @@ def configured(root):
     etc = "/etc/niluppang"
 
     def ask(who):
-        return root.run("hubctl", "--url", f"https://127.0.0.1:{port}", "--ca", f"{etc}/authority.crt", "--cert", f"{etc}/{who}.crt",
+        return root.run("hubctl", "--url", f"https://127.0.0.1:{port}", "--ca",
+                        f"{etc}/authority.crt", "--cert", f"{etc}/{who}.crt",
                         "--key", f"{etc}/{who}.key", "totals")
 
     roles = root.path / "etc/niluppang/roles.toml"
     variables = {"NOTIFY_SOCKET": "/run/niluppang-notify", "WATCHDOG_USEC": "1500000"}
-    with listening(root.path / "run/niluppang-notify") as its, started(root, *operating.exec_start(), **variables) as site:
-        yield reported("the process of the unit says that it is ready and lives", heard(its, site, "READY=1", "WATCHDOG=1"))
+    with listening(root.path / "run/niluppang-notify") as its, started(root, *operating.exec_start(),
+                                                                       **variables) as site:
+        yield reported("the process of the unit says that it is ready and lives",
+                       heard(its, site, "READY=1", "WATCHDOG=1"))
         desk, stranger = ask("desk.hub.example"), ask("stranger.example")
         yield reported("the desk reads", desk.status == 0, desk.errors.decode())
         yield reported("a stranger does not", stranger.status != 0 and b"40" in stranger.errors, str(stranger))
@@ -380,7 +417,8 @@ def configured(root):
 # ---- what is left
 
 # what dpkg, adduser, nginx, the index of the manual and this check write, which is of no package
-NOT_OURS = ("var/lib/dpkg/", "var/log/", "var/cache/", "etc/ld.so.cache", "etc/.pwd.lock", "etc/nginx/", "var/lib/nginx/", "tmp/", "run/",
+NOT_OURS = ("var/lib/dpkg/", "var/log/", "var/cache/", "etc/ld.so.cache", "etc/.pwd.lock", "etc/nginx/",
+            "var/lib/nginx/", "tmp/", "run/",
             STAND_INS[1:])
 USERS = ("etc/passwd", "etc/group", "etc/shadow", "etc/gshadow", "etc/subuid", "etc/subgid")
 

@@ -1,9 +1,11 @@
-"""python_package.py: the tests of bindings/python pass, its types hold, and pip installs it from the folder and as a wheel.
+"""python_package.py: the tests of bindings/python pass, its types hold, and pip installs it from the folder and as a
+wheel.
 
-The tests run in pytest, with the shared library that tools/library.py makes, or with the one that the variable NILUPPANG_LIBRARY names.
-mypy judges the types if it is there, also those that a program sees. pip installs a copy of the folder, with no package from elsewhere, and
-the installed package finds the library beside it. The wheel of tools/bindings.py is installed in a new environment of Python, without
-setuptools and without a network. A small program runs there, and nothing is left after its removal.
+The tests run in pytest, with the shared library that tools/library.py makes, or with the one that the variable
+NILUPPANG_LIBRARY names. mypy judges the types if it is there, also those that a program sees. pip installs a copy of
+the folder, with no package from elsewhere, and the installed package finds the library beside it. The wheel of
+tools/bindings.py is installed in a new environment of Python, without setuptools and without a network. A small program
+runs there, and nothing is left after its removal.
 """
 import base64
 import contextlib
@@ -38,7 +40,7 @@ from niluppang import BytesSite, Closed, DeltaRefused, LinesTaken, MessageRefuse
 with Site.restore(1, 3, b"", "delta 2\\nend 0\\n") as site, BytesSite(2, 3) as twin, mmap(-1, 2) as mapped:
     split: str = site.kept_text("2024-05-02") + site.closed_text(b"2024-05-02")
     text: str = site.status_text() + site.journal(1) + site.newest(2) + site.reading(mapped) + site.answer()
-    data: bytes = twin.cut([1, 2]) + twin.journal()
+    data: bytes = twin.cut([1, 2]) + twin.journal() + twin.entries(1, 0, 1)
     taken: LinesTaken[bytes] = twin.take_lines(bytearray(b""))
     number: Optional[int] = site.take(memoryview(b"{}")).number
     changes: List[Transfer] = site.changes()
@@ -52,7 +54,8 @@ errors: List[NiluppangError] = [Refused(44), MessageRefused(56, 2, "56 2 34 Rsn"
 values: List[ValueError] = [Refused(44), MessageRefused(31), DeltaRefused(45)]
 reasons: List[str] = [error.reason + error.name + error.meaning for error in errors if error.number or error.place]
 """
-WRONG = ["site.number = 2", "site.is_closed = True", "site.take(5)", "text: bytes = site.status_text()", "site.journal('1')"]
+WRONG = ["site.number = 2", "site.is_closed = True", "site.take(5)", "text: bytes = site.status_text()",
+         "site.journal('1')"]
 
 
 @contextlib.contextmanager
@@ -94,9 +97,11 @@ def tests(shared):
     if python is None:
         without("pytest", "python3-pytest")
         return 0, 0
-    answer = harness.run([python, "-m", "pytest", "-q", "-p", "no:cacheprovider"], cwd=FOLDER, env=clean(NILUPPANG_LIBRARY=str(shared)))
+    answer = harness.run([python, "-m", "pytest", "-q", "-p", "no:cacheprovider"], cwd=FOLDER,
+                         env=clean(NILUPPANG_LIBRARY=str(shared)))
     text = answer.text.decode(errors="replace")
-    numbers = {word: int(number) for number, word in re.findall(r"(\d+) (passed|failed|error)", text.splitlines()[-1] if text else "")}
+    numbers = {word: int(number) for number, word in re.findall(r"(\d+) (passed|failed|error)",
+                                                                text.splitlines()[-1] if text else "")}
     if answer.status:
         print(text[-4000:], answer.errors.decode(errors="replace")[-1000:], flush=True)
     failed = numbers.get("failed", 0) + numbers.get("error", 0)
@@ -109,7 +114,8 @@ def page(folder):
     in_python, shown = match.groups()
     source = folder / "page.py"
     source.write_text(in_python)
-    answer = harness.run([sys.executable, source], env=clean(NILUPPANG_LIBRARY=str(folder / "libniluppang.so"), PYTHONPATH=str(FOLDER)))
+    answer = harness.run([sys.executable, source],
+                         env=clean(NILUPPANG_LIBRARY=str(folder / "libniluppang.so"), PYTHONPATH=str(FOLDER)))
     yield reported("the program in Python of docs/users/embedding.md", answer == (shown.encode(), b"", 0), str(answer))
 
 
@@ -131,11 +137,13 @@ def types(folder):
     head = "from niluppang import Site\nsite = Site(1, 1)\n"
     (folder / "wrong.py").write_text(head + "\n".join(WRONG) + "\n")
     found = re.findall(r"wrong\.py:(\d+): error", judged(folder / "wrong.py").text.decode())
-    yield reported("types of wrong lines", sorted(set(map(int, found))) == [3 + place for place in range(len(WRONG))], f"{found}")
+    yield reported("types of wrong lines", sorted(set(map(int, found))) == [3 + place for place in range(len(WRONG))],
+                   f"{found}")
 
 
 def installed(folder, about):
-    """Whether pip installs a copy of the folder, which then works without the variable, and says of itself what the wheel says."""
+    """Whether pip installs a copy of the folder, which then works without the variable, and says of itself what the
+    wheel says."""
     python = interpreter("setuptools", "wheel", "pip")
     if python is None:
         without("pip with setuptools and wheel", "python3-pip python3-setuptools python3-wheel")
@@ -156,16 +164,19 @@ def installed(folder, about):
 
 
 def fields(text):
-    """The fields of what a package says of itself, with its page. The version of the form is another one by each program."""
+    """The fields of what a package says of itself, with its page. The version of the form is another one by each
+    program."""
     message = email.message_from_string(text)
-    return {*(pair for pair in message.items() if pair[0] != "Metadata-Version"), ("page", message.get_payload().strip())}
+    return {*(pair for pair in message.items() if pair[0] != "Metadata-Version"),
+            ("page", message.get_payload().strip())}
 
 
 # ---- the wheel
 
 def release_files(path):
     """The files of the release's archive of which a wheel is made, with the library at a path."""
-    paths = [FOLDER / "pyproject.toml", FOLDER / "README.md", *(it for it in (FOLDER / "niluppang").iterdir() if it.is_file())]
+    paths = [FOLDER / "pyproject.toml", FOLDER / "README.md",
+             *(it for it in (FOLDER / "niluppang").iterdir() if it.is_file())]
     found = {f"share/niluppang/python/{it.relative_to(FOLDER)}": it.read_bytes() for it in paths}
     return {"lib/" + library.SONAME: path.read_bytes(), **found}
 
@@ -189,7 +200,8 @@ def in_wheel(name, data, its_library):
     tag = f"py3-none-manylinux_2_{max(5, newest_symbol(its_library))}_x86_64"
     form = email.message_from_bytes(archive.read(info + "WHEEL"))
     said = form["Wheel-Version"], form["Root-Is-Purelib"], form.get_all("Tag")
-    yield reported("its tag", name == f"niluppang-{library.VERSION}-{tag}.whl" and said == ("1.0", "false", [tag]), f"{name} {said}")
+    yield reported("its tag", name == f"niluppang-{library.VERSION}-{tag}.whl" and said == ("1.0", "false", [tag]),
+                   f"{name} {said}")
 
     def digest(one):
         return base64.urlsafe_b64encode(hashlib.sha256(archive.read(one)).digest()).decode().rstrip("=")
@@ -205,9 +217,11 @@ def in_wheel(name, data, its_library):
 def said_of(about):
     """What the wheel says of itself. It has no licence and names no address."""
     message = email.message_from_string(about)
-    right = {"Metadata-Version": "2.1", "Name": "niluppang", "Version": library.VERSION, "Author": "The authors of Niluppang",
+    right = {"Metadata-Version": "2.1", "Name": "niluppang", "Version": library.VERSION,
+             "Author": "The authors of Niluppang",
              "License": "No licence has been granted yet.",
-             "Summary": "The proved site of a clearing hub for SEPA Instant Credit Transfers", "Requires-Python": ">=3.8",
+             "Summary": "The proved site of a clearing hub for SEPA Instant Credit Transfers",
+             "Requires-Python": ">=3.8",
              "Description-Content-Type": "text/markdown"}
     said, listed = dict(message.items()), message.get_all("Classifier")
     said.pop("Classifier")
@@ -234,7 +248,8 @@ def in_venv(folder, wheel):
     yield reported("pip installs the wheel", done.status == 0, (done.text + done.errors).decode(errors="replace"))
     lib, = place.glob("lib/python3*/site-packages")
     status = (EXAMPLES / "bank-day.status").read_bytes()
-    answer = harness.run([place / "bin" / "python", "-c", STATUS], (EXAMPLES / "bank-day.jsonl").read_bytes(), cwd=folder, env=clean())
+    answer = harness.run([place / "bin" / "python", "-c", STATUS], (EXAMPLES / "bank-day.jsonl").read_bytes(),
+                         cwd=folder, env=clean())
     wanted = status, f"{lib / 'niluppang' / 'libniluppang.so'}\n".encode(), 0
     yield reported("a program in it", answer == wanted, str(answer))
     shown = pip("show", "niluppang").text.decode()

@@ -1,6 +1,7 @@
 """roots.py: this machine as a root of its own for a check, through an overlay. What is written there goes to memory.
 
-The mounts are those of the process of the check alone, and of what it starts. So nothing of them is left, however it ends.
+The mounts are those of the process of the check alone, and of what it starts. So nothing of them is left, however it
+ends.
 """
 from __future__ import annotations
 import contextlib
@@ -13,7 +14,8 @@ from typing import Any, Iterator
 from tests import harness
 from tests.hub import sites
 
-PLAIN = {"PATH": "/usr/sbin:/usr/bin:/sbin:/bin", "HOME": "/root", "LANG": "C.UTF-8", "DEBIAN_FRONTEND": "noninteractive"}
+PLAIN = {"PATH": "/usr/sbin:/usr/bin:/sbin:/bin", "HOME": "/root", "LANG": "C.UTF-8",
+         "DEBIAN_FRONTEND": "noninteractive"}
 NEW_MOUNTS = 0x20000  # of unshare(2)
 
 
@@ -25,7 +27,8 @@ class Root:
 
     def words(self, user: Any, *words: Any) -> Any:
         """The command line of a command there, which ends when the process that starts it ends."""
-        return ["chroot", self.path, "setpriv", f"--reuid={user}", f"--regid={user}", "--init-groups", "--pdeathsig=KILL", *words]
+        return ["chroot", self.path, "setpriv", f"--reuid={user}", f"--regid={user}", "--init-groups",
+                "--pdeathsig=KILL", *words]
 
     def run(self, *words: Any, data: Any = None, user: str = "root", **variables: Any) -> Any:
         """The answer of a command there."""
@@ -37,7 +40,8 @@ class Root:
         return harness.reported(name, done.status == 0, (done.text + done.errors).decode(errors="replace"))
 
     def written(self) -> Iterator[Any]:
-        """The paths of what was changed, made or removed there. A folder counts if the machine has none with its path."""
+        """The paths of what was changed, made or removed there. A folder counts if the machine has none with its
+        path."""
         for folder, names, files in os.walk(self.upper):
             its = pathlib.Path(folder).relative_to(self.upper)
             yield from (str(its / name) for name in files if not is_same(self.upper / its / name, f"/{its / name}"))

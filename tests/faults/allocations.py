@@ -1,14 +1,15 @@
 """allocations.py: the program is run with each of its allocations refused in turn.
 
-The first run of a round has none refused. Then each number has a run of its own, up to the greatest count that was seen, whichever
-thread allocates. What is allocated to start a thread counts too. A run must write the right text and its refused lines. If an
-allocation was refused, it may instead write nothing but `fault 65` and end with 3. Some run of each command must do so. With several
-threads a number is another allocation from run to run, and may not come. On made-up transfers and in `run` several threads must have
-allocated.
+The first run of a round has none refused. Then each number has a run of its own, up to the greatest count that was
+seen, whichever thread allocates. What is allocated to start a thread counts too. A run must write the right text and
+its refused lines. If an allocation was refused, it may instead write nothing but `fault 65` and end with 3. Some run of
+each command must do so. With several threads a number is another allocation from run to run, and may not come. On
+made-up transfers and in `run` several threads must have allocated.
 
-If it is a thread that `run` lacks, it writes `fault 67` and ends with 2. That is so if the allocation was refused to the start of a
-thread, and if it was the last one before the first start, which is for what the thread runs. Before that it must be 65. Later ones may
-be for what another thread runs too, but at most one in ten of them is. Runs of each kind must come.
+If it is a thread that `run` lacks, it writes `fault 67` and ends with 2. That is so if the allocation was refused to
+the start of a thread, and if it was the last one before the first start, which is for what the thread runs. Before that
+it must be 65. Later ones may be for what another thread runs too, but at most one in ten of them is. Runs of each kind
+must come.
 """
 import collections
 import tempfile
@@ -29,8 +30,8 @@ Command = collections.namedtuple("Command", "words input rounds right threads", 
 
 
 def small_input():
-    """Two examples with messages of all kinds, lists and refused lines, and a message about each of the made-up transfers. These are
-    enough for threads to read, evaluate and write."""
+    """Two examples with messages of all kinds, lists and refused lines, and a message about each of the made-up
+    transfers. These are enough for threads to read, evaluate and write."""
     made_up = [instruction(it) if it % 2 else confirmation(it) for it in range(TRANSFERS)]
     return b"".join((EXAMPLES / name).read_bytes() for name in READ) + "".join(made_up).encode()
 
@@ -62,7 +63,8 @@ def commands(folder):
 
 
 def shortages(command, run, first):
-    """What a run may be out of, if an allocation was refused. `first` is how many come before the first thread is to start."""
+    """What a run may be out of, if an allocation was refused. `first` is how many come before the first thread is to
+    start."""
     if command.words[0] != RUN:
         return [OUT_OF_MEMORY]
     if run.of_starts or run.number == first:
@@ -85,9 +87,11 @@ def marked(command, runs):
 
 
 def later_marks(marks):
-    """What runs of `run` wrote of which an allocation was refused after the first thread began, and not to the start of one."""
+    """What runs of `run` wrote of which an allocation was refused after the first thread began, and not to the start of
+    one."""
     first = min(run.before_threads for run, _ in marks if run.number == 0)
-    return collections.Counter(mark for run, mark in marks if is_refused(run) and run.number > first and not run.of_starts)
+    return collections.Counter(mark for run, mark in marks if is_refused(run) and run.number > first
+                               and not run.of_starts)
 
 
 def have_own_numbers(command, marks):
@@ -108,24 +112,28 @@ def print_failures(command, marks):
         if mark is None:
             numbers[run.answer].append(run.number)
     for (text, errors, status), them in numbers.items():
-        print(f"{command.words[0]}, {len(them)} runs, the first with {them[0]}: {text[:80]!r}, {errors[-80:]!r}, status {status}")
+        print(f"{command.words[0]}, {len(them)} runs, the first with {them[0]}: {text[:80]!r}, {errors[-80:]!r}, "
+              f"status {status}")
 
 
 def tried(program, library, command):
-    """How many runs of a command ended as they may, and how many failed. As many threads as the command has must allocate, and some run
-    must report what it was out of."""
+    """How many runs of a command ended as they may, and how many failed. As many threads as the command has must
+    allocate, and some run must report what it was out of."""
     words = [program, *command.words]
-    marks = [one for _ in range(command.rounds) for one in marked(command, harness.each_refused(library, words, command.input))]
+    marks = [one for _ in range(command.rounds)
+             for one in marked(command, harness.each_refused(library, words, command.input))]
     runs, counts = [run for run, _ in marks], collections.Counter(mark for _, mark in marks)
     failed = counts.pop(None, 0)
     short = sum(counts.values()) - counts[TEXT]
     threads = min(run.threads for run in runs if run.number == 0)
     refused = sum(map(is_refused, runs))
     print_failures(command, marks)
-    print(f"{command.words[0]}: up to {max(run.allocations for run in runs)} allocations, {threads} threads with none refused")
+    print(f"{command.words[0]}: up to {max(run.allocations for run in runs)} allocations, {threads} threads "
+          "with none refused")
     print(f"{command.words[0]}: {refused} runs with one refused, {len(runs) - refused} with none: "
           + ", ".join(f"{mark} {times}" for mark, times in counts.items()) + f", {failed} in another way", flush=True)
-    return len(runs) - failed, failed + (threads < command.threads) + (not short) + (not have_own_numbers(command, marks))
+    return len(runs) - failed, failed + (threads < command.threads) + (not short) + (not have_own_numbers(command,
+                                                                                                          marks))
 
 
 def main():

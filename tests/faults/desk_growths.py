@@ -1,10 +1,11 @@
 """desk_growths.py: each growth of `Desk::take` is refused, and is answered by 50 or by 51.
 
-The test driver takes a message at a new desk. After a 50 the desk must do all that it does at first. After a 51 with position 1 a query
-sees nothing, and the next call reports one arrival, which an earlier call brought. Each growth is refused before each of four: the next
-publication, closing (53 with position 1 after a 51), the same message once more (a repeat, whose receipt reports the arrival), and
-another message (its receipt reports both). Each growth of these calls is refused too, after a take that had ample memory. The core
-has room for the other message, so that take grows nothing before the message has arrived, and 50 does not come.
+The test driver takes a message at a new desk. After a 50 the desk must do all that it does at first. After a 51 with
+position 1 a query sees nothing, and the next call reports one arrival, which an earlier call brought. Each growth is
+refused before each of four: the next publication, closing (53 with position 1 after a 51), the same message once more
+(a repeat, whose receipt reports the arrival), and another message (its receipt reports both). Each growth of these
+calls is refused too, after a take that had ample memory. The core has room for the other message, so that take grows
+nothing before the message has arrived, and 50 does not come.
 """
 from tests.faults import growths
 from tests.faults.growths import Trial, acceptance, instruction
@@ -12,8 +13,8 @@ from tests.faults.growths import Trial, acceptance, instruction
 TAKE = [instruction("M1", "T1", "1.00"), "take"]
 TAKEN = "taken 1 1 1 0\n"
 
-# What follows the take, what is printed then with ample memory, and what is printed if a growth is refused: of the take, and of the call
-# that follows it.
+# What follows the take, what is printed then with ample memory, and what is printed if a growth is refused: of the
+# take, and of the call that follows it.
 NEXT = {
     "publish": (["ask", "publish"], "Pending 1\n2 0 0\nclosed 1\n", {
         "take": {"50": "50\nUnknown 0\n1 0 0\nclosed 0\n", "51": "51 1\nUnknown 0\n1 1 1\nclosed 1\n"},

@@ -1,7 +1,8 @@
 """forms.py: each growth is refused once while the test driver reads and writes a message of each form.
 
-The messages are one of each kind, with and without a reason or a recall, and a recall in both its forms, with lists of one and of two
-transactions. If the message is not read or not written, the driver must answer 30. Any other answer must be the written form.
+The messages are one of each kind, with and without a reason or a recall, and a recall in both its forms, with lists of
+one and of two transactions. If the message is not read or not written, the driver must answer 30. Any other answer must
+be the written form.
 """
 import json
 from bench.generate import samples

@@ -1,9 +1,11 @@
-"""growths.py: what the test driver prints if a growth of a call is refused, with each of its allocations refused in turn.
+"""growths.py: what the test driver prints if a growth of a call is refused, with each of its allocations refused in
+turn.
 
-Each number of an allocation has a run of its own, up to the greatest count that was seen. If the allocation is a growth of a call, the
-driver must print the number of the fault, and then what it should: that nothing has changed, and what the same call brings if it is
-made again. If the allocation is one of the driver itself, it prints a beginning of what it prints with ample memory, and ends with 1.
-The growths of a call come one after another. Between them may be allocations that do no harm if they are refused.
+Each number of an allocation has a run of its own, up to the greatest count that was seen. If the allocation is a growth
+of a call, the driver must print the number of the fault, and then what it should: that nothing has changed, and what
+the same call brings if it is made again. If the allocation is one of the driver itself, it prints a beginning of what
+it prints with ample memory, and ends with 1. The growths of a call come one after another. Between them may be
+allocations that do no harm if they are refused.
 """
 import collections
 import json
@@ -11,9 +13,9 @@ import tempfile
 from bench.generate import samples
 from tests import harness
 
-# what the driver is asked, and what it prints with ample memory; what it prints if a growth of a call is refused, by the call and then
-# by the number of the fault; how many refused allocations between the growths of a call do no harm; and the number of an allocation
-# that is refused in each run, before the one in question
+# what the driver is asked, and what it prints with ample memory; what it prints if a growth of a call is refused, by
+# the call and then by the number of the fault; how many refused allocations between the growths of a call do no harm;
+# and the number of an allocation that is refused in each run, before the one in question
 Trial = collections.namedtuple("Trial", "name words lines ample refused harmless also", defaults=[0, 0])
 
 # the call whose growth was refused, and the number of the fault
@@ -38,7 +40,8 @@ def mark_of(trial, run):
         return None
     if status == 1 and trial.ample.startswith(text):
         return ENDED
-    marks = [Mark(call, fault) for call, texts in trial.refused.items() for fault, wanted in texts.items() if wanted == text]
+    marks = [Mark(call, fault) for call, texts in trial.refused.items() for fault, wanted in texts.items()
+             if wanted == text]
     return marks[0] if marks and status == 0 else None
 
 
@@ -63,7 +66,8 @@ def print_failures(trial, runs, marks):
 
 def all_runs(driver, library, trial):
     """A run with each allocation refused, and one with none."""
-    return harness.each_refused(library, [driver, *trial.words], "".join(f"{line}\n" for line in trial.lines).encode(), trial.also)
+    return harness.each_refused(library, [driver, *trial.words], "".join(f"{line}\n" for line in trial.lines).encode(),
+                                trial.also)
 
 
 def tried(driver, library, trial):
@@ -73,13 +77,15 @@ def tried(driver, library, trial):
     print_failures(trial, runs, marks)
     counts = collections.Counter(mark for mark in marks.values() if mark and mark.call)
     missed = [call for call in trial.refused if not is_whole(trial, marks, call)]
-    print(f"{trial.name}: " + ", ".join(f"{times} of {call} answered by {fault}" for (call, fault), times in counts.items())
+    print(f"{trial.name}: " + ", ".join(f"{times} of {call} answered by {fault}"
+                                        for (call, fault), times in counts.items())
           + "".join(f", {call} is not met one after another" for call in missed), flush=True)
     return sum(counts.values()), list(marks.values()).count(None) + len(missed)
 
 
 def end(trials):
-    """Ends the check that tries these, with how many refused growths were answered as they must be, and how many failed."""
+    """Ends the check that tries these, with how many refused growths were answered as they must be, and how many
+    failed."""
     driver = harness.program("sct_test_driver")
     with tempfile.TemporaryDirectory() as folder:
         library = harness.refuser(folder)

@@ -1,13 +1,14 @@
 """memory.py: the program is run in less memory than it needs.
 
-What limits a run is how many bytes it may map to write in, the stacks of its threads included. The first thread's own stack is not
-counted: the system ends a process whose first stack may not grow. The limit grows by 1 MiB up to 96, and by 4 MiB for long files. With
-the small limits no thread has room for its stack, with others some allocation is refused, and with the largest there is room for all.
-A run must write the right text, or nothing but `fault 65` and end with 3. `run` may write `fault 67` too, if there is no thread for a
-worker, and end with 2. Runs of each command must do the one and the other.
+What limits a run is how many bytes it may map to write in, the stacks of its threads included. The first thread's own
+stack is not counted: the system ends a process whose first stack may not grow. The limit grows by 1 MiB up to 96, and
+by 4 MiB for long files. With the small limits no thread has room for its stack, with others some allocation is refused,
+and with the largest there is room for all. A run must write the right text, or nothing but `fault 65` and end with 3.
+`run` may write `fault 67` too, if there is no thread for a worker, and end with 2. Runs of each command must do the one
+and the other.
 
-A `run` of two long files has room for the stacks of all threads before it has room for its messages. So `fault 65` must come at a
-limit above one with `fault 67`.
+A `run` of two long files has room for the stacks of all threads before it has room for its messages. So `fault 65` must
+come at a limit above one with `fault 67`.
 """
 import collections
 import tempfile
@@ -47,7 +48,8 @@ def tries(program):
     """The numbers of each command."""
     data = long_input(MESSAGES)
     for words, (text, refused, status) in commands_on(data):
-        yield tried(words, runs_of(program, words, data), Answer(text.encode(), refused.encode(), status), [OUT_OF_MEMORY])
+        yield tried(words, runs_of(program, words, data), Answer(text.encode(), refused.encode(), status),
+                    [OUT_OF_MEMORY])
     with tempfile.TemporaryDirectory() as folder:
         for run, step in (two_files(folder), STEP), (lines_in_turn(folder, data, 2), LONG_STEP):
             answers = runs_of(program, run.words, b"", step)

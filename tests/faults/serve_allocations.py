@@ -1,8 +1,9 @@
 """serve_allocations.py: `serve` is run with each of its allocations refused in turn.
 
-A short session has rounds of messages and deltas, and each question between them. It begins with no journal, and with one whose end is
-torn. A run must write the right replies. If an allocation was refused, it may instead stop with the replies of whole rounds, `fault 65`
-and status 3. The journal then keeps what the replied rounds brought, and all or nothing of the next one, and opens as those lines.
+A short session has rounds of messages and deltas, and each question between them. It begins with no journal, and with
+one whose end is torn. A run must write the right replies. If an allocation was refused, it may instead stop with the
+replies of whole rounds, `fault 65` and status 3. The journal then keeps what the replied rounds brought, and all or
+nothing of the next one, and opens as those lines.
 """
 import collections
 import os
@@ -19,7 +20,8 @@ OWN, GROUP = 1, 3
 HEAD = serve.header(OWN, GROUP)
 REPORT = b"? report BANKDEFF 2024-05-02 DbtrAgt,TxId,Amt,Sts\tBANKDEFF,T1,1.00,ACCEPTED\tBANKDEFF,T5,1.00,PENDING"
 
-# how a session may end: what it has written, what the journal keeps then behind its header, and what it keeps if the next round lasts too
+# how a session may end: what it has written, what the journal keeps then behind its header, and what it keeps if the
+# next round lasts too
 End = collections.namedtuple("End", "text kept next")
 
 
@@ -32,14 +34,18 @@ def line(text):
 def requests():
     """The requests of the session. A question ends a round."""
     messages = [line(instruction(1)), line(confirmation(1)), b"{}", line(instruction(1)), b"", line(instruction(2))]
-    deltas = [*map(delta_line, (delta(2, 1, 7, 8), delta(2, 9, 9), delta(2, 1, 7))), b"delta 2\tend 1", line(instruction(3))]
-    questions = [b"? vector", b"? changes", b"? status", b"? cut 1:1", b"? archive", b"? totals", b"? contradictions",
+    deltas = [*map(delta_line, (delta(2, 1, 7, 8), delta(2, 9, 9), delta(2, 1, 7))), b"delta 2\tend 1",
+              line(instruction(3))]
+    questions = [b"? vector", b"? changes", b"? status", b"? cut 1:1", b"? entries 1 1 1000",
+                 b"? digests", b"? digest 1 1",
+                 b"? archive", b"? totals", b"? contradictions",
                  b"? transfer BANKDEFF T1", b"? messages BANKDEFF T1", b"? bank BANKDEFF", REPORT, b"? foo", b"? cut x"]
     return [*messages, *questions, *deltas, b"? changes", line(instruction(4)), line(confirmation(4)), b"? status"]
 
 
 def ends_of(lines):
-    """How a session on a journal with these lines may end: before it is ready, after that, and after each of its rounds."""
+    """How a session on a journal with these lines may end: before it is ready, after that, and after each of its
+    rounds."""
     serving, kept_now = restored(OWN, GROUP, lines), list(lines)
     ends, text = [End(b"", kept_now, kept_now)], serving.ready()
     for these in serve.rounds_of(requests()):
@@ -94,12 +100,14 @@ class Journals:
 
 
 def tried(program, library, name, start):
-    """How many runs ended as they may, and how many failed. Some must stop with fault 65, and some of these with replies."""
+    """How many runs ended as they may, and how many failed. Some must stop with fault 65, and some of these with
+    replies."""
     with tempfile.TemporaryDirectory() as folder:
         marks = Journals(program, folder, start).marks(library)
     for run, mark in marks:
         if mark is None:
-            print(f"{name}, allocation {run.number}: {run.answer.text[-80:]!r}, {run.answer.errors[-80:]!r}, status {run.answer.status}")
+            print(f"{name}, allocation {run.number}: {run.answer.text[-80:]!r}, {run.answer.errors[-80:]!r}, status "
+                  f"{run.answer.status}")
     counts = collections.Counter(mark for _, mark in marks)
     replied = sum(mark == "fault 65" and run.answer.text != b"" for run, mark in marks)
     failed = counts.pop(None, 0)
@@ -113,7 +121,8 @@ def main():
     torn = serve.gated([HEAD, line(instruction(5)), delta_line(delta(3, 1, 6))])[:-1] + b" torn"
     with tempfile.TemporaryDirectory() as folder:
         library = harness.refuser(folder)
-        harness.end_with([tried(program, library, name, start) for name, start in (("no journal", b""), ("a torn journal", torn))])
+        harness.end_with([tried(program, library, name, start)
+                          for name, start in (("no journal", b""), ("a torn journal", torn))])
 
 
 if __name__ == "__main__":

@@ -1,8 +1,9 @@
-"""command_lines.py: the program answers each command line of tests/data/command-lines/, and the test driver each of tests/data/test-driver/.
+"""command_lines.py: the program answers each command line of tests/data/command-lines/, and the test driver each of
+tests/data/test-driver/.
 
-A file NAME.txt has one command line after another: a line `== TITLE`, a line `$ WORDS`, the lines of standard input, after `-- out`
-and `-- err` what must be written to the two outputs, and a line `-- exit STATUS`. The other files there are those that the words
-name.
+A file NAME.txt has one command line after another: a line `== TITLE`, a line `$ WORDS`, the lines of standard input,
+after `-- out` and `-- err` what must be written to the two outputs, and a line `-- exit STATUS`. The other files there
+are those that the words name.
 """
 from tests import harness
 from tests.golden.titled import before_answers, titled

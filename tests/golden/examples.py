@@ -1,9 +1,10 @@
 """examples.py: the program answers each example of examples/ as its files say.
 
-NAME.jsonl is a list of messages, and NAME.script a script. NAME.COMMAND is what that command must write to standard output, and
-NAME.refused what it must write to standard error. NAME.site1, NAME.site2 and so on are lists of messages at several sites: NAME.run
-and NAME.run-refused are what `run` must write for them. NAME.list is the list of a bank for the day that REPORTS has, and NAME.report
-the report on it over NAME.jsonl. The exit status must be 1 if a line is refused, else 0.
+NAME.jsonl is a list of messages, and NAME.script a script. NAME.COMMAND is what that command must write to standard
+output, and NAME.refused what it must write to standard error. NAME.site1, NAME.site2 and so on are lists of messages at
+several sites: NAME.run and NAME.run-refused are what `run` must write for them. NAME.list is the list of a bank for the
+day that REPORTS has, and NAME.report the report on it over NAME.jsonl. The exit status must be 1 if a line is refused,
+else 0.
 """
 from tests import harness
 from tests.harness import EXAMPLES, case
@@ -21,7 +22,8 @@ def examples():
             return example.with_suffix(suffix).read_bytes()
 
         for command in COMMANDS.get(example.suffix, []):
-            yield case(f"{example.stem} {command}", [command], example.read_bytes(), read("." + command), read(".refused"))
+            yield case(f"{example.stem} {command}", [command], example.read_bytes(), read("." + command),
+                       read(".refused"))
         if example.suffix == ".run":
             sites = sorted(site.name for site in EXAMPLES.glob(example.stem + ".site*"))
             yield case(f"{example.stem} run", ["run", *sites], b"", example.read_bytes(), read(".run-refused"))

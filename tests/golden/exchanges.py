@@ -1,13 +1,17 @@
-"""exchanges.py: the program answers `site`, `vector` and `cut` on files as tests/data/exchange/ says, and hub.sh writes what it must.
+"""exchanges.py: the program answers `site`, `vector`, `digests` and `cut` on files as tests/data/exchange/ says, and
+hub.sh writes what it must.
 
-A file NAME.txt of cases has one command line after another: a line `== TITLE`, a line `$ WORDS`, after `-- out` and `-- err` what must
-be written to the two outputs, and a line `-- exit STATUS`. After `-- out FILE` the text is that of a file beside it. The words name the
-other files there.
+A file NAME.txt of cases has one command line after another: a line `== TITLE`, a line `$ WORDS`, after `-- out` and `--
+err` what must be written to the two outputs, and a line `-- exit STATUS`. After `-- out FILE` the text is that of a
+file beside it. The words name the other files there.
 
-Two cases are made up here: a hundred deltas that are given in the opposite order, and the deltas of a group of 1024 sites.
+Some cases are made up here: a hundred deltas that are given in the opposite order, the deltas of a group of 1024 sites,
+and digests, which hashlib makes.
 
-examples/exchange/hub.sh runs with each shell of this machine. It must print hub.expected, and stop with one line if the program fails.
+examples/exchange/hub.sh runs with each shell of this machine. It must print hub.expected, and stop with one line if the
+program fails.
 """
+import hashlib
 import pathlib
 import shlex
 import shutil
@@ -48,7 +52,8 @@ def archive(numbers):
 
 
 def in_opposite_order(folder):
-    """A site without a journal is given so many deltas of one entry, the last one first. It accepts one in each round."""
+    """A site without a journal is given so many deltas of one entry, the last one first. It accepts one in each
+    round."""
     texts = [delta(1, number, number) for number in range(MANY, 0, -1)]
     words = ["2", "2", "/dev/null", *files_of(folder, "late", texts)]
     yield case(f"{MANY} deltas in the opposite order", ["site", *words], b"", archive(range(1, MANY + 1)), b"")
@@ -65,17 +70,44 @@ def of_most_sites(folder):
     vector = ",".join(f"{origin}:1" for origin in range(1, MOST_SITES + 1))
     yield case(f"a group of {MOST_SITES}", ["site", *words[0], *words[1]], b"", archive(range(1, MOST_SITES + 1)), b"")
     yield case("its vector", ["vector", *words[0], *words[1]], b"", vector.encode() + b"\n", b"")
-    yield case("a cut for one that lacks the last entry", ["cut", *words[0], vector[:vector.rindex(",")], *words[1]], b"",
+    yield case("a cut for one that lacks the last entry",
+               ["cut", *words[0], vector[:vector.rindex(",")], *words[1]], b"",
                delta(MOST_SITES, 1, MOST_SITES), b"")
-    yield case("a delta of the last site in a smaller group", ["vector", "1", str(MOST_SITES - 1), journal, above], b"", b"1:1\n",
+    yield case("a delta of the last site in a smaller group",
+               ["vector", "1", str(MOST_SITES - 1), journal, above], b"", b"1:1\n",
                b"file 2: 44\n")
+
+
+def digest(*texts):
+    """The digest of entries with these texts: each is over the one before it, the text of its entry and a line feed."""
+    last = bytes(32)
+    for text in texts:
+        last = hashlib.sha256(last + text.encode() + b"\n").digest()
+    return last.hex()
+
+
+def compared(folder):
+    """The digests of a site with entries of its own and of another one, also if a line came in another form."""
+    texts = [archive([number]).decode().rstrip("\n") for number in range(5)]
+    loose = instruction(1).replace('":"', '" : "').encode()
+    own, again, theirs = files_of(folder, "digests", [(instruction(1) + instruction(2)).encode(),
+                                                      loose + instruction(2).encode(), delta(2, 1, 4, 3)])
+    both = f"1:2:{digest(texts[1], texts[2])}\n2:2:{digest(texts[4], texts[3])}\n".encode()
+    yield case("digests of two origins, each in the order of its entries", ["digests", "1", "2", own, theirs], b"",
+               both, b"")
+    yield case("digests of lines in another form", ["digests", "1", "2", again, theirs], b"", both, b"")
+    yield case("digests of one origin", ["digests", "1", "2", own], b"", both[:both.index(b"\n") + 1], b"")
+    yield case("digests of nothing", ["digests", "1", "2", "/dev/null"], b"", b"", b"")
+    yield case("digests beside a delta that is too early", ["digests", "1", "2", own,
+                                                            *files_of(folder, "early", [delta(2, 2, 4)])],
+               b"", both[:both.index(b"\n") + 1], b"file 2: 41 2 0 2\n")
 
 
 # ---- the hub
 
 def hubs(folder, commands):
-    """Whether hub.sh prints what it must with each shell, keeps a folder that is named and takes none that is there, and stops if the
-    program fails."""
+    """Whether hub.sh prints what it must with each shell, keeps a folder that is named and takes none that is there,
+    and stops if the program fails."""
     wanted = (HUB / "hub.expected").read_text()
     for name in filter(shutil.which, SHELLS):
         text, status = shell(f"{name} hub.sh", HUB, commands)
@@ -83,7 +115,8 @@ def hubs(folder, commands):
     hub = pathlib.Path(folder, "hub")
     text, status = shell(f"sh hub.sh {hub}", HUB, commands)
     kept = {path.name for path in hub.glob("site2/*")}
-    yield reported("hub.sh keeps a folder", (text, status) == (wanted, 0) and kept == {"journal", "in", "archive", "status"}, f"{kept}")
+    yield reported("hub.sh keeps a folder",
+                   (text, status) == (wanted, 0) and kept == {"journal", "in", "archive", "status"}, f"{kept}")
     faulty = pathlib.Path(folder, "faulty")
     faulty.write_text(FAULTY)
     faulty.chmod(0o755)
@@ -97,7 +130,7 @@ def hubs(folder, commands):
 def main():
     program = harness.program()
     with tempfile.TemporaryDirectory() as folder:
-        cases = [*command_lines(), *in_opposite_order(folder), *of_most_sites(folder)]
+        cases = [*command_lines(), *in_opposite_order(folder), *of_most_sites(folder), *compared(folder)]
         right = [harness.fits(program, one) for one in cases]
         right += hubs(folder, place(folder, program))
     harness.end_of(right)

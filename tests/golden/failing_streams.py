@@ -1,8 +1,9 @@
 """failing_streams.py: the program ends as it must if a stream fails after any number of bytes.
 
-A read that fails is 62, and nothing is written. A write that fails is 63, and what was written is a prefix of the right text. If the
-error output fails too, the exit status alone reports it. No bytes are written of an empty text. For sites that exchange deltas, a
-journal or a delta opens and then fails, and the outputs are full. A day that is none ends `keep` and `closed` before they read.
+A read that fails is 62, and nothing is written. A write that fails is 63, and what was written is a prefix of the right
+text. If the error output fails too, the exit status alone reports it. No bytes are written of an empty text. For sites
+that exchange deltas, a journal or a delta opens and then fails, and the outputs are full. A day that is none ends
+`keep` and `closed` before they read.
 """
 import os
 import pty
@@ -50,10 +51,12 @@ def runs(program):
         "an input of which a read fails": [
             after_failing_read(program, data[:length]) == (b"", b"fault 62\n", 2) for length in range(len(data) + 1)],
         "an output that is full": [
-            into_little_room(program, data, room, "stdout") == (text[:room], refused + b"fault 63\n", 2) for room in range(len(text))],
+            into_little_room(program, data, room, "stdout") == (text[:room], refused + b"fault 63\n", 2)
+            for room in range(len(text))],
         "an error output that is full": [
-            into_little_room(program, data, room, "stderr") == (b"", refused[:room], 2) for room in range(len(refused))],
-        "an empty text": [into_little_room(program, b"\n", 0, full) == (b"", b"", 0) for full in ("stdout", "stderr")],
+            into_little_room(program, data, room, "stderr") == (b"", refused[:room], 2)
+            for room in range(len(refused))],
+        "an empty text": [into_little_room(program, b"\n", 0, full) == (b"", b"", 0) for full in ("stdout", "stderr")]
     }
 
 
@@ -63,7 +66,8 @@ def splits(program):
     for word in keep.PARTS:
         text, refused = (part.encode() for part in keep.answer(word, DAY, data)[:2])
         found[f"{word}, an input of which a read fails"] = [
-            after_failing_read(program, data[:length], [word, DAY]) == (b"", b"fault 62\n", 2) for length in (0, 3, len(data))]
+            after_failing_read(program, data[:length], [word, DAY]) == (b"", b"fault 62\n", 2)
+            for length in (0, 3, len(data))]
         found[f"{word}, an input that fails, after a day that is none"] = [
             after_failing_read(program, b"", [word, day]) == (b"", keep.answer(word, day, b"")[1].encode(), 2)
             for day in ("2025-3-11", "", "2025-03-11Z")]
@@ -81,13 +85,16 @@ def rooms(text):
 def exchanges(program, folder):
     """Whether each run of a site that exchanges deltas ends as it must, by what fails."""
     found = {"a journal or a delta of which a read fails": [
-        harness.run([program, "vector", "1", "2", *files]) == (b"", b"fault 62\n", 2) for files in ([FAILING], [os.devnull, FAILING])]}
+        harness.run([program, "vector", "1", "2", *files]) == (b"", b"fault 62\n", 2)
+        for files in ([FAILING], [os.devnull, FAILING])]}
     for words in exchanging(folder):
         text, refused = (part.encode() for part in exchange.answer(words)[:2])
         found[f"{words[0]}, an output that is full"] = [
-            into_little_room(program, b"", room, "stdout", words) == (text[:room], refused + b"fault 63\n", 2) for room in rooms(text)]
+            into_little_room(program, b"", room, "stdout", words) == (text[:room], refused + b"fault 63\n", 2)
+            for room in rooms(text)]
         found[f"{words[0]}, an error output that is full"] = [
-            into_little_room(program, b"", room, "stderr", words) == (b"", refused[:room], 2) for room in rooms(refused)]
+            into_little_room(program, b"", room, "stderr", words) == (b"", refused[:room], 2)
+            for room in rooms(refused)]
     return found
 
 

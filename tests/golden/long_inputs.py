@@ -1,8 +1,9 @@
-"""long_inputs.py: the program answers inputs that it reads in several threads as the definitions say, on any number of processors.
+"""long_inputs.py: the program answers inputs that it reads in several threads as the definitions say, on any number of
+processors.
 
-The long input has made-up messages, recalls of several transfers, blank lines and refused ones. Its lines in turn are also the
-sixteen files of a `run`, which must answer the same status text, and report the refused lines of each file. tests/oracle/ has the
-right answers. On a machine with fewer processors all of them are used.
+The long input has made-up messages, recalls of several transfers, blank lines and refused ones. Its lines in turn are
+also the sixteen files of a `run`, which must answer the same status text, and report the refused lines of each file.
+tests/oracle/ has the right answers. On a machine with fewer processors all of them are used.
 """
 import tempfile
 from tests import harness

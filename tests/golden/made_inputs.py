@@ -1,11 +1,15 @@
-"""made_inputs.py: inputs that are too long or too deep for tests/data/cases/, or have bytes that no text shows there, with their answers.
+"""made_inputs.py: inputs that are too long or too deep for tests/data/cases/, or have bytes that no text shows there,
+with their answers.
 
-Each is a Made: a name, the command, the input, what must be written to standard output, and what to standard error. cases.py runs them.
+Each is a Made: a name, the command, the input, what must be written to standard output, and what to standard error.
+cases.py runs them.
 """
 import collections
 from tests.inputs import instruction
 
 Made = collections.namedtuple("Made", "name command data text refused")
+
+PART = 40_000  # two such parts are more than what is read in one
 
 TRANSFER = instruction(1).rstrip("\n")
 TRANSFER_WRITTEN = (
@@ -49,23 +53,37 @@ def refused_lines(name, *lines):
 
 # ---- bytes that a file does not show
 
+# refused lines and blank ones on both sides of a message, which end in carriage returns, and no last line feed
+MIXED = f"foo\r\n\n \t\r\n[]\r\n{REPORT}\r\n\n{{}}\n\r\n".encode() + b'{"MsgNmId":"pacs.002"}'
+MIXED_REFUSED = b"line 1: 31\nline 4: 32\nline 7: 33\nline 9: 34 MsgId\n"
+
+
 def odd_bytes():
     """Lines that end in carriage returns, and bytes that are not UTF-8."""
-    lines = f"foo\r\n\n \t\r\n[]\r\n{REPORT}\r\n\n{{}}\n\r\n" + '{"MsgNmId":"pacs.002"}'
-    refused = "line 1: 31\nline 4: 32\nline 7: 33\nline 9: 34 MsgId\n"
-    yield Made("lines that end in carriage returns", "archive", lines.encode(), REPORT_WRITTEN.encode(), refused.encode())
+    yield Made("lines that end in carriage returns", "archive", MIXED, REPORT_WRITTEN.encode(), MIXED_REFUSED)
     yield Made("blank lines count", "status", b"\n\nfoo\n\r\n[]\n", b"", b"line 3: 31\nline 5: 32\n")
     yield Made("a message before a carriage return, and no last line feed", "archive", f"{REPORT}\r\n{{}}".encode(),
                REPORT_WRITTEN.encode(), b"line 2: 33\n")
     yield Made("white space around a message and between its parts", "status",
                TRANSFER.replace('"Ccy":"EUR",', '\t"Ccy"\r: "EUR"\t,\r').encode() + b" \t\r\n", PENDING.encode(), b"")
     yield Made("bytes that are not UTF-8", "status", b'\xff\n{"MsgNmId":"\xff"}\n', b"", b"line 1: 31\nline 2: 31\n")
+    yield Made("a dot and a vertical tab, which are no white space", "status", b" .\n\x0b\n \t\r\n", b"",
+               b"line 1: 31\nline 2: 31\n")
 
 
 def after_feeds():
     """A refused line after so many line feeds that it is read in another part of the input."""
     for feeds in (65_532, 200_000):
         yield Made(f"{feeds} line feeds", "status", b"\n" * feeds + b"foo", b"", f"line {feeds + 1}: 31\n".encode())
+
+
+def in_parts():
+    """These lines so deep in spaces that they are read in parts. The middle, where a part begins, is once at each of
+    their bytes."""
+    for place in range(len(MIXED) + 1):
+        data = b" " * PART + MIXED + b" " * (PART + 2 * place - len(MIXED))
+        yield Made("the middle of an input at each byte of its lines", "archive", data, REPORT_WRITTEN.encode(),
+                   MIXED_REFUSED)
 
 
 # ---- deep and long objects
@@ -102,10 +120,13 @@ def counted():
     def repeated(element, count, last):
         return listed(*[element] * count, last)
 
-    yield refused_lines("lists of 100 elements", (repeated("{}", 99, "{}"), "56 1 34 CxlId"), (repeated("{}", 99, "7"), "46 100"),
+    yield refused_lines("lists of 100 elements", (repeated("{}", 99, "{}"), "56 1 34 CxlId"),
+                        (repeated("{}", 99, "7"), "46 100"),
                         (repeated("[]", 99, "{}"), "46 1"))
-    yield refused_lines("lists of more elements", (repeated("{}", 100, "{}"), "46 0"), (repeated("7", 100, "{}"), "46 0"),
-                        (repeated("{}", 100, "7"), "46 0"), (repeated("{}", 100_000, "{}"), "46 0"), (repeated("[[]]", 100_000, "7"), "46 0"),
+    yield refused_lines("lists of more elements", (repeated("{}", 100, "{}"), "46 0"),
+                        (repeated("7", 100, "{}"), "46 0"),
+                        (repeated("{}", 100, "7"), "46 0"), (repeated("{}", 100_000, "{}"), "46 0"),
+                        (repeated("[[]]", 100_000, "7"), "46 0"),
                         (listed(*numbered(101)), "46 0"))
     most = listed(*numbered(100)) + "\n"
     yield Made("100 transactions", "archive", most.encode(), most.encode(), b"")
@@ -121,9 +142,11 @@ def rules():
         [second, first, second], [first, other_transfer, first], [first, other_bank, first],
         *[[*numbered(99), transaction(cxl)] for cxl in ("R1", "R50", "R99")])])
     yield refused_lines("dollars in any transaction", *[(listed(*elements), "38 11") for elements in (
-        [first, dollars], [dollars, first], [*numbered(99), dollars], [about_return, dollars], [first, first, dollars])])
-    yield refused_lines("an original of another kind in any transaction", *[(listed(*elements), "38 21") for elements in (
-        [first, about_return], [about_return, first], [*numbered(99), about_return], [first, first, about_return])])
+        [first, dollars], [dollars, first], [*numbered(99), dollars], [about_return, dollars],
+        [first, first, dollars])])
+    yield refused_lines("an original of another kind in any transaction", *[
+        (listed(*elements), "38 21") for elements in (
+            [first, about_return], [about_return, first], [*numbered(99), about_return], [first, first, about_return])])
     for name, elements in (("another transfer", [first, other_transfer]), ("another bank", [first, other_bank]),
                            ("a space after the identification", [first, transaction("R1 ")]),
                            ("the first of 99 recalls on another transfer", [*numbered(99), other_transfer])):
@@ -144,11 +167,14 @@ def scripts():
     lines = ["", " \t\r", "sites 1", "", "take 9 []", "take 0 {}", 'take 1 {"MsgNmId":"pacs.002"}',
              "take 1 " + REPORT.replace('"TxSts":"ACCP",', ""), "take 1 " + report]
     refused = "line 5: 32\nline 6: 33\nline 7: 34 MsgId\nline 8: 34 TxSts\nline 9: 38 15\n"
-    yield Made("messages of a script that are refused", "replay", "\n".join(lines).encode(), answers(1).encode(), refused.encode())
-    yield Made("an event that ends in a carriage return", "replay", b"sites 3\ncut 1 -\r\n", answers(3).encode(), b"line 2: 64\n")
+    yield Made("messages of a script that are refused", "replay", "\n".join(lines).encode(), answers(1).encode(),
+               refused.encode())
+    yield Made("an event that ends in a carriage return", "replay", b"sites 3\ncut 1 -\r\n", answers(3).encode(),
+               b"line 2: 64\n")
     for sites in (1, 1024):
         yield Made(f"{sites} sites and no event", "replay", f"sites {sites}".encode(), answers(sites).encode(), b"")
-    script = f"sites 2\ntake 1  {TRANSFER}\r\ntake 0 {TRANSFER}\ntake 65535 {TRANSFER}\ncut 3 -\nhand 0 1\nhand 18446744073709551615 1\n"
+    script = (f"sites 2\ntake 1  {TRANSFER}\r\ntake 0 {TRANSFER}\ntake 65535 {TRANSFER}\ncut 3 -\nhand 0 1\nhand "
+              "18446744073709551615 1\n")
     ends = ["TAKEN|1", *["REFUSED|44"] * 3, *["REFUSED|47"] * 2]
     text = "".join(f"E|{number}|{end}\n" for number, end in enumerate(ends, start=1)) + f"S|1\n{written}S|2\n"
     yield Made("sites and deltas that do not exist", "replay", script.encode(), text.encode(), b"")
@@ -162,5 +188,5 @@ def scripts():
 
 def made_inputs():
     """All of these inputs."""
-    for some in (odd_bytes, after_feeds, deep, many_members, counted, rules, scripts):
+    for some in (odd_bytes, after_feeds, in_parts, deep, many_members, counted, rules, scripts):
         yield from some()

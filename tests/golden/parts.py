@@ -1,19 +1,25 @@
-"""parts.py: the program of services/parts/, which asks `sct_sites` on parts of an input, answers as `sct_sites` alone does.
+"""parts.py: the program of services/parts/, which asks `sct_sites` on parts of an input, answers as `sct_sites` alone
+does.
 
 - The examples, with their own texts.
-- 20,000 messages in 7 files, in any order: repeated, refused and blank lines, identities that are contradicted across files, recalls
-  of up to 100 transfers. It is cut into parts of a given number, and into smaller ones than fit. Then a worker is killed.
+- 20,000 messages in 7 files, in any order: repeated, refused and blank lines, identities that are contradicted across
+files, recalls
+  of up to 100 transfers. It is cut into parts of a given number, and into smaller ones than fit. Then a worker is
+  killed.
 - Made-up small inputs, on the workers of a cluster that has an address. `tests/golden/parts.py N` tries N of them.
-- A full disk, a run that goes on where another one stopped, a run on other files in its folder, one with other code, and messages that are
+- A full disk, a run that goes on where another one stopped, a run on other files in its folder, one with other code,
+and messages that are
   tied together and too large for a part.
 - A list with rows of other banks or of another day, sizes with units, and how far a run is, by a clock that is set.
-- A folder with what the program did not make, errors that nobody foresaw, who listens while it works, a cluster over TLS, and texts of more
+- A folder with what the program did not make, errors that nobody foresaw, who listens while it works, a cluster over
+TLS, and texts of more
   parts than a process may have files.
-- A program that names one transfer or one identity in each part, and one that takes what is not a message: the check finds that.
+- A program that names one transfer or one identity in each part, and one that takes what is not a message: the check
+finds that.
 - The commands of docs/users/parts.md, and the words with which it starts Dask.
 
-On the stand-in of the program the large input is smaller. It needs the Debian packages python3-dask and python3-distributed. Without them
-nothing passes and nothing fails, and a line says so.
+On the stand-in of the program the large input is smaller. It needs the Debian packages python3-dask and
+python3-distributed. Without them nothing passes and nothing fails, and a line says so.
 """
 import collections
 import contextlib
@@ -29,11 +35,11 @@ import shutil
 import subprocess
 import sys
 import tempfile
-import time
 from concurrent.futures import ThreadPoolExecutor
 from bench.generate import messages, samples
 from tests import harness, inputs
 from tests.golden.shown import is_printed, place, shell, shown
+from tests.hub import sites
 from tests.hub.secure import certificate
 from tests.harness import DESK, EXAMPLES, SERVICES, TOP, reported
 from tests.oracle.status import Refused, read_message
@@ -52,12 +58,15 @@ DASK = {"dask_scheduler": ["--tls-ca-file", "--tls-cert", "--tls-key"],
         "dask_worker": ["--nthreads", "--tls-ca-file", "--tls-cert", "--tls-key"]}
 COMMANDS = ["status", "totals", "archive"]
 KEEP = {"kept": ["keep", inputs.DAY], "closed": ["closed", inputs.DAY]}
-NOT_MESSAGES = ["foo", "{}", "[]", "\x0c", '{"MsgNmId":"pacs.008"}', '{"MsgNmId":"camt.056","TxInf":[]}', "\ufeff{}", " \t\r", ""]
+NOT_MESSAGES = ["foo", "{}", "[]", "\x0c", '{"MsgNmId":"pacs.008"}', '{"MsgNmId":"camt.056","TxInf":[]}', "\ufeff{}",
+                " \t\r", ""]
 
 # a program that runs another one, after it did something to the worker that runs it
 ONCE_KILLED = '#!/bin/sh\n[ "$1" = status ] && mkdir "$0.killed" 2> /dev/null && kill -9 $PPID\nexec {} "$@"\n'
-# a program that ends with status 2 from its eleventh call on, as long as a file is there; each call adds a line to another file
-STOPS = '#!/bin/sh\necho "$1" >> "$0.calls"\n[ -e "$0.stop" ] && [ $(wc -l < "$0.calls") -gt 10 ] && exit 2\nexec {} "$@"\n'
+# a program that ends with status 2 from its eleventh call on, as long as a file is there; each call adds a line to
+# another file
+STOPS = ('#!/bin/sh\necho "$1" >> "$0.calls"\n[ -e "$0.stop" ] && [ $(wc -l < "$0.calls") -gt 10 ] && exit '
+         '2\nexec {} "$@"\n')
 
 # programs that answer what they must not: each part has one transfer, or one identity, or refuses nothing
 LIES = {
@@ -93,7 +102,8 @@ SHORT_BIC = re.compile(r'("[A-Z][a-z]+Agt":"[A-Z0-9]{8})"')
 
 
 def large_input(r, many):
-    """So many lines in any order: messages, most of them on a transfer of their own, and what the head of this page says."""
+    """So many lines in any order: messages, most of them on a transfer of their own, and what the head of this page
+    says."""
     lines = [line[:-1] for line in messages.lines(many * 9 // 10)]
     instructed = [line for line in lines if '"TxId"' in line]
     more = [inputs.recall(number, instructed[at:at + r.choice([2, 10, 100])])[:-1]
@@ -117,7 +127,8 @@ def small_input(r):
     """A few messages that meet one another, refused lines and blank ones."""
     pool = Pool(r)
     made = [pool.message() for _ in range(r.randint(1, 25))]
-    lines = [shuffled(r, message) for message in made + [written_out(message) for message in r.sample(made, len(made) // 2)]]
+    lines = [shuffled(r, message) for message in made + [written_out(message)
+                                                         for message in r.sample(made, len(made) // 2)]]
     lines += [refused_text(r, r.choice(made)) for _ in range(r.randint(0, 3))] + [shuffled(r, refused_list(r, made))]
     lines += [b"", b" \r", "é".encode("latin-1")]
     r.shuffle(lines)
@@ -133,11 +144,12 @@ def instructions_in(lines):
 
 
 def list_of(r, lines):
-    """A bank, a day, and a list of rows on the first transfers of that bank, of which some are twice, and on two that no message
-    names."""
+    """A bank, a day, and a list of rows on the first transfers of that bank, of which some are twice, and on two that
+    no message names."""
     instructed = list(instructions_in(lines)) or [samples.instruction()]
     bank, day = instructed[0]["CdtrAgt"], instructed[0]["IntrBkSttlmDt"]
-    keys = [(one["DbtrAgt"], one["TxId"], one["IntrBkSttlmAmt"]) for one in instructed if bank in (one["DbtrAgt"], one["CdtrAgt"])]
+    keys = [(one["DbtrAgt"], one["TxId"], one["IntrBkSttlmAmt"]) for one in instructed
+            if bank in (one["DbtrAgt"], one["CdtrAgt"])]
     rows = keys[:300:2] + keys[:20] + [(bank, "T,1", "1.00"), (bank, "T0", "2.00")]
     text = "".join(f'{one},"{two}",{amount},{r.choice(["ACCEPTED", "PENDING"])}\n' for one, two, amount in rows)
     return bank, day, ("DbtrAgt,TxId,Amt,Sts\n" + text).encode()
@@ -211,7 +223,8 @@ def script(folder, name, text, program):
 
 def copied_code(folder):
     """A copy of the program, which may be changed, beside the package that finds the tools of the desk."""
-    code = shutil.copytree(SERVICES / "parts", pathlib.Path(folder, "code", "parts"), ignore=shutil.ignore_patterns("__pycache__"))
+    code = shutil.copytree(SERVICES / "parts", pathlib.Path(folder, "code", "parts"),
+                           ignore=shutil.ignore_patterns("__pycache__"))
     (code.parent / "hub").symlink_to(SERVICES / "hub")
     return code
 
@@ -227,9 +240,11 @@ def large(r, python, program, folder):
     out = pathlib.Path(folder, "out")
     yield tried.is_right(f"{many} messages in 7 files", out, "--workers", "2", "--parts", "7", "--block", "300000")
     yield tried.is_right(f"the same in parts of {most} bytes at most", out, "--workers", "2", "--most", str(most))
-    yield reported("some of these parts were cut again", tried.parts() > sum(map(os.path.getsize, tried.files)) // (most * 3 // 4) + 1)
+    yield reported("some of these parts were cut again",
+                   tried.parts() > sum(map(os.path.getsize, tried.files)) // (most * 3 // 4) + 1)
     killing = script(folder, "killing", ONCE_KILLED, program)
-    yield tried.is_right("the same with a worker that is killed", out, "--workers", "2", "--parts", "4", program=killing)
+    yield tried.is_right("the same with a worker that is killed", out, "--workers", "2", "--parts", "4",
+                         program=killing)
     yield reported("a worker was killed", os.path.isdir(killing + ".killed"))
     shutil.rmtree(out)
     yield tried.stops("a full disk", "File too large", out, "--workers", "2", room=200000)
@@ -263,7 +278,8 @@ def going_on(r, python, program, folder):
             file.write(change)
         tried = Tried(python, program, files, report)
         yield tried.is_right(name, out, *asked, program=stopping)
-        yield from asks(tried, calls, name, bool(change), pathlib.Path(folder, f"{name} at once"), *asked, program=stopping)
+        yield from asks(tried, calls, name, bool(change), pathlib.Path(folder, f"{name} at once"), *asked,
+                        program=stopping)
 
 
 def refusing(r, python, program, folder):
@@ -273,14 +289,17 @@ def refusing(r, python, program, folder):
     path, out = pathlib.Path(folder, "rows.list"), pathlib.Path(folder, "out")
     report = listed(r, lines, path)
     tried = Tried(python, program, files_of(r, folder, lines + [tie, b"foo"], 2), report)
-    yield tried.stops("messages that are tied together", "|camt.056|K1 names 2", out, "--most", "8000", "--workers", "1")
+    yield tried.stops("messages that are tied together", "|camt.056|K1 names 2", out, "--most", "8000", "--workers",
+                      "1")
     for word in "--keep", "--closed":
         yield tried.stops(f"{word} of a day that is none", "fault 64", out, word, "2025-3-11", "--workers", "1")
-        yield tried.stops(f"{word} of a word that is an option of the program", "fault 64", out, word + "=--help", "--workers", "1")
+        yield tried.stops(f"{word} of a word that is an option of the program", "fault 64", out, word + "=--help",
+                          "--workers", "1")
     for what, text in LIES.items():
         lying = script(folder, "lying", text, program)
         why = "has no keys" if what == "no refused line" else f"share the {what.split()[-1]}"
-        yield tried.stops(f"a program that has {what} too many", why, out, "--parts", "3", "--workers", "1", program=lying)
+        yield tried.stops(f"a program that has {what} too many", why, out, "--parts", "3", "--workers", "1",
+                          program=lying)
 
 
 def examples(python, program, folder):
@@ -290,14 +309,16 @@ def examples(python, program, folder):
         refused = EXAMPLES / f"{name}.refused"
         right["whole.refused"] = refused.read_bytes() if refused.exists() else b""
         out = pathlib.Path(folder, name)
-        answer = harness.run([python, MAIN, "--program", program, "--workers", "1", "--parts", "3", out, EXAMPLES / f"{name}.jsonl"])
+        answer = harness.run([python, MAIN, "--program", program, "--workers", "1", "--parts", "3", out,
+                              EXAMPLES / f"{name}.jsonl"])
         yield reported(name, (texts_in(out), answer.status) == (right, 1 if right["whole.refused"] else 0), f"{answer}")
 
 
 # ---- the check of a list, sizes, and how far a run is
 
 def checking(python, program, folder):
-    """A list is checked before a report, as the desk does it: with the same sentences, and also if the archive is not asked for."""
+    """A list is checked before a report, as the desk does it: with the same sentences, and also if the archive is not
+    asked for."""
     listed = EXAMPLES / "bank-day.list"
     begin, check = [python, MAIN, "--program", program, "--workers", "1"], [sys.executable, DESK / "check_list.py"]
 
@@ -313,16 +334,46 @@ def checking(python, program, folder):
     right, said = (EXAMPLES / "bank-day.report").read_bytes(), as_said("LUTEFRPP", "2025-03-10")
     for out, *asked in (["/all", "--parts", "3"], ["/less", "--ask", "totals", "--unchecked"]):
         answer = report(out, ("LUTEFRPP", "2025-03-10"), *asked)
-        yield reported(f"a report with a row of another day, {' '.join(asked)}", (texts_in(folder + out).get("whole.report"), answer.status,
-                       answer.errors) == (right, 0, said) and said.count(b"row 9: ") == 1, f"{answer}")
+        yield reported(f"a report with a row of another day, {' '.join(asked)}",
+                       (texts_in(folder + out).get("whole.report"), answer.status,
+                        answer.errors) == (right, 0, said) and said.count(b"row 9: ") == 1, f"{answer}")
     answer, said = report("/wrong", ("DEUTDEFF", "2025-03-10"), "--parts", "3"), as_said("DEUTDEFF", "2025-03-10")
     last = f"parts: there is no report on {listed}\n".encode()
-    yield reported("no report on transfers of others", (answer.status, answer.errors) == (2, said + last) and said.count(b"row ") == 9
+    yield reported("no report on transfers of others",
+                   (answer.status, answer.errors) == (2, said + last) and said.count(b"row ") == 9
                    and not texts_in(folder + "/wrong"), f"{answer}")
     for words, why in ((("LUTEFRPP", "2025-02-31"), b"2025-02-31 is not a day such as 2025-03-10"),
                        (("lutefrpp", "2025-03-10"), b"lutefrpp is not a BIC of 8 or 11 capitals and digits")):
         answer = report("/words", words)
-        yield reported(f"a report with the words {words}", (answer.status, answer.errors) == (2, b"parts: " + why + b"\n"), f"{answer}")
+        yield reported(f"a report with the words {words}",
+                       (answer.status, answer.errors) == (2, b"parts: " + why + b"\n"), f"{answer}")
+
+
+def explaining(python, program, folder):
+    """A list that `sct_sites` refuses is explained row by row, or by the command that makes a list of it. Files of
+    another kind are named."""
+    def run(*words):
+        return harness.run([python, MAIN, "--program", program, "--workers", "1", *words])
+
+    listed, day = pathlib.Path(folder, "saved.csv"), EXAMPLES / "bank-day.jsonl"
+    for data, said in (
+            (b"DbtrAgt,TxId,Amt,Sts\nLUTEFRPP,T1,1.640,ACCEPTED\n",
+             "parts: row 2: '1.640' is not an amount such as 12.50: it can be 1640 or 1.640\nparts: there is "
+             f"no report on {listed}\n"), (b"DbtrAgt;TxId;Amt;Sts\nLUTEFRPP;T1;640,00;ACCEPTED\n",
+                                           f"parts: there is no report on {listed}: a spreadsheet saved it: python3 "
+                                           f"{DESK / 'list_from_csv.py'} {listed} prints a list of it\n")):
+        listed.write_bytes(data)
+        answer = run("--report", "LUTEFRPP", "2025-03-10", listed, folder + "/saved", day)
+        yield reported(f"the list {data!r}", (answer.status, answer.errors.decode()) == (2, said), f"{answer}")
+    for name, data, why in (("day.gz", b"\x1f\x8b\x08", "compressed by gzip: unpack it"),
+                            ("day.xml", b"\xef\xbb\xbf\n <Document>", "XML: a converter"),
+                            ("day.xlsx", b"PK\3\4", "a workbook or a ZIP archive"),
+                            ("wide.jsonl", "\ufeff{}".encode("utf-16-le"), "in UTF-16")):
+        path = pathlib.Path(folder, name)
+        path.write_bytes(data)
+        answer = run(folder + "/kind", day, path)
+        yield reported(f"{name} is named",
+                       answer.status == 2 and answer.errors.startswith(f"parts: {path} is {why}".encode()), f"{answer}")
 
 
 def sizing(python, program, folder):
@@ -334,9 +385,12 @@ def sizing(python, program, folder):
 
     for text, many in (("2000", 2000), ("2kB", 2000), ("2 KiB", 2048), ("3KB", 3000), ("3072B", 3072)):
         answer = run("--most", text, folder + "/out", batch)
-        yield reported(f"--most {text}", answer.status == 2 and b"a part has at most %d bytes" % many in answer.errors, f"{answer}")
-    for text, why in (("2GiB", b"more than 1073741824 bytes"), ("128MiX", b"is not a size such as"), ("0", b"is not a size such as"),
-                      ("-1", b"is not a size such as"), ("1.5GiB", b"is not a size such as"), ("128mib", b"is not a size such as")):
+        yield reported(f"--most {text}", answer.status == 2 and b"a part has at most %d bytes" % many in answer.errors,
+                       f"{answer}")
+    for text, why in (("2GiB", b"more than 1073741824 bytes"), ("128MiX", b"is not a size such as"),
+                      ("0", b"is not a size such as"),
+                      ("-1", b"is not a size such as"), ("1.5GiB", b"is not a size such as"),
+                      ("128mib", b"is not a size such as")):
         answer = run("--most", text, folder + "/out", batch)
         yield reported(f"no --most {text}", answer.status == 2 and why in answer.errors, f"{answer}")
     answer = run(batch, EXAMPLES / "bank-day.jsonl")
@@ -353,17 +407,20 @@ class Screen(io.StringIO):
 
 
 def progressing():
-    """How far a run is, by a clock that is set by hand. The read step has 84 of 241 seconds, and the answer step 157."""
+    """How far a run is, by a clock that is set by hand. The read step has 84 of 241 seconds, and the answer step
+    157."""
     clock = [0.0]
 
     def made(screen, is_asked):
         return progress.Progress(["read", "answer"], is_asked, screen, lambda: clock[0])
 
     lines = ["parts: step 1 of 2, read: 0 of 2 blocks", "parts: step 1 of 2, read: 1 of 2 blocks, about 3:19 left",
-             "parts: step 2 of 2, answer: 0 of 4 parts, about 2:37 left", "parts: step 2 of 2, answer: 4 of 4 parts, about 0:00 left"]
+             "parts: step 2 of 2, answer: 0 of 4 parts, about 2:37 left",
+             "parts: step 2 of 2, answer: 4 of 4 parts, about 0:00 left"]
     for name, is_terminal, is_asked, right in (
             ("a terminal has one line", True, False, "".join("\r\033[K" + line for line in lines) + "\r\033[K"),
-            ("a file has a line for each call that ended", False, True, "".join(line + "\n" for line in (lines[1], lines[3]))),
+            ("a file has a line for each call that ended", False, True,
+             "".join(line + "\n" for line in (lines[1], lines[3]))),
             ("a file has none if it is not asked for", False, False, "")):
         screen, clock[0] = Screen(is_terminal), 0.0
         shown = made(screen, is_asked)
@@ -379,7 +436,8 @@ def progressing():
 # ---- what is not its own, errors, and who listens
 
 def keeping(r, python, program, folder):
-    """Folders with what the program did not make: it ends, and leaves all of it. Errors that nobody foresaw: status 2."""
+    """Folders with what the program did not make: it ends, and leaves all of it. Errors that nobody foresaw: status
+    2."""
     lines, path = small_input(r), pathlib.Path(folder, "rows.list")
     report = listed(r, lines, path)
     tried = Tried(python, program, files_of(r, folder, lines, 2), report)
@@ -391,35 +449,43 @@ def keeping(r, python, program, folder):
         (out / "whole.truth").write_text("mine")
         answer = tried.run(out, *asked)
         left = [(out / one).read_text() for one in (name, "whole.truth")]
-        yield reported(f"{name} of somebody else stays, and the run ends", answer.status == 2 and b"did not make it" in answer.errors
+        yield reported(f"{name} of somebody else stays, and the run ends",
+                       answer.status == 2 and b"did not make it" in answer.errors
                        and left == ['{"mine": 1}', "mine"], f"{answer}")
     out = pathlib.Path(folder, "out")
     yield tried.is_right("a folder of its own", out, *asked, "--progress")
-    right = b"parts: step 5 of 7, answer: 2 of 2 parts, about 0:0" in tried.answer.errors
-    yield reported("it says how far it is", right, f"{tried.answer}")
+    right = re.search(rb"parts: step 5 of 7, answer: 2 of 2 parts, about \d+:\d\d left\n", tried.answer.errors)
+    yield reported("it says how far it is", bool(right), f"{tried.answer}")
     modes = {path.stat().st_mode & 0o077 for path in [out, *out.iterdir()]}
     yield reported("nobody else reads the answers", modes == {0})
     yield tried.is_right("the same folder again", out, *asked)
     (out / "whole.status").write_text("mine")
     answer = tried.run(out, *asked)
-    yield reported("a text that somebody changed stays", answer.status == 2 and (out / "whole.status").read_text() == "mine", f"{answer}")
+    yield reported("a text that somebody changed stays",
+                   answer.status == 2 and (out / "whole.status").read_text() == "mine", f"{answer}")
     shutil.rmtree(out)
-    odd = script(folder, "odd", '#!/bin/sh\n[ "$1" = totals ] || exec {0} "$@"\n{0} "$@" > /dev/null\ns=$?\necho "BANK|x"\nexit $s\n', program)
+    odd = script(folder, "odd",
+                 '#!/bin/sh\n[ "$1" = totals ] || exec {0} "$@"\n{0} "$@" > /dev/null\ns=$?\necho "BANK|x"\nexit $s\n',
+                 program)
     answer = tried.run(out, *asked, program=odd)
-    yield reported("an error that nobody foresaw is no answer", answer.status == 2 and answer.errors.startswith(b"parts: ") and not texts_in(out),
+    yield reported("an error that nobody foresaw is no answer",
+                   answer.status == 2 and answer.errors.startswith(b"parts: ") and not texts_in(out),
                    f"{answer}")
     for words in (["--scheduler", "tcp://10.255.255.1:8786"], ["--scheduler", "tls://10.255.255.1:8786"]):
         answer = tried.run(pathlib.Path(folder, "far"), *words)
-        yield reported(f"{words[1][:3]} to another machine needs its words", answer.status == 2 and b"--" in answer.errors, f"{answer}")
+        yield reported(f"{words[1][:3]} to another machine needs its words",
+                       answer.status == 2 and b"--" in answer.errors, f"{answer}")
 
 
 def noticing(r, python, program, folder):
-    """A file that changes while it is read, a second run in the folder, and a cut that loses a line: the run ends without an answer."""
+    """A file that changes while it is read, a second run in the folder, and a cut that loses a line: the run ends
+    without an answer."""
     lines, path, out = small_input(r) + small_input(r), pathlib.Path(folder, "rows.list"), pathlib.Path(folder, "out")
     report = listed(r, lines, path)
     files = files_of(r, folder, lines, 2)
     tried, asked = Tried(python, program, files, report), ["--workers", "1", "--parts", "2"]
-    changing = script(folder, "changing", f'#!/bin/sh\n[ "$1" = status ] && echo >> {files[1]}\nexec {{}} "$@"\n', program)
+    changing = script(folder, "changing", f'#!/bin/sh\n[ "$1" = status ] && echo >> {files[1]}\nexec {{}} "$@"\n',
+                      program)
     yield tried.stops("a file that changes while it is read", "a file changed", out, *asked, program=changing)
     with open(out / "lock", "rb") as lock:
         fcntl.flock(lock, fcntl.LOCK_EX)
@@ -430,7 +496,8 @@ def noticing(r, python, program, folder):
     (code / "parts.py").write_text(lossy)
     tried.main = code / "main.py"
     yield reported("the cut can be changed", lossy != source)
-    yield tried.stops("a cut that loses a line", "the parts have other lines than the files", pathlib.Path(folder, "lossy"), *asked)
+    yield tried.stops("a cut that loses a line", "the parts have other lines than the files",
+                      pathlib.Path(folder, "lossy"), *asked)
 
 
 def beginning_anew(r, python, program, folder):
@@ -482,22 +549,24 @@ def below(process):
 def private(r, python, program, folder):
     """Who listens while the program works: on 127.0.0.1 alone, and nobody without its certificate sends a task."""
     lines = small_input(r)
-    waiting = script(folder, "waiting", '#!/bin/sh\nif [ "$1" = status ]; then touch "$0.is"; sleep 4; fi\nexec {} "$@"\n', program)
+    waiting = script(
+        folder, "waiting",
+        '#!/bin/sh\nif [ "$1" = status ]; then touch "$0.is"; until [ -e "$0.may" ]; do sleep 0.1; done; fi\n'
+        'exec {} "$@"\n', program)
     words = [python, MAIN, "--program", waiting, "--workers", "2", f"{folder}/out", *files_of(r, folder, lines, 1)]
     with subprocess.Popen(words, stdout=subprocess.DEVNULL, stderr=subprocess.DEVNULL) as process:
-        for _ in range(300):
-            if os.path.exists(waiting + ".is"):
-                break
-            time.sleep(0.1)
+        sites.until(lambda: os.path.exists(waiting + ".is") or process.poll() is not None, sites.LONGEST)
         found = list(listening(below(process.pid)))
         plain = {port for port in ports_of(process.pid) if answers_plainly(python, port)}
+        pathlib.Path(waiting + ".may").touch()
     yield reported("it listens on 127.0.0.1 alone", len(found) > 2 and set(found) == {"0100007F"}, f"{found}")
     yield reported("nobody without its certificate sends tasks", not plain, f"{plain}")
 
 
 def ports_of(process):
     """The ports at which the processes below one listen. Empty after it ended."""
-    inodes = {number for one in below(process) for entry in glob.glob(f"/proc/{one}/fd/*") for number in inode_of(entry)}
+    inodes = {number for one in below(process) for entry in glob.glob(f"/proc/{one}/fd/*")
+              for number in inode_of(entry)}
     lines = [line.split() for line in pathlib.Path("/proc/net/tcp").read_text().splitlines()[1:]]
     return {int(fields[1].partition(":")[2], 16) for fields in lines if fields[3] == "0A" and fields[9] in inodes}
 
@@ -508,12 +577,13 @@ def inode_of(entry):
     return []
 
 
-PLAIN = "import sys\nfrom distributed import Client\nClient('tcp://127.0.0.1:' + sys.argv[1], timeout=2).submit(int).result(timeout=2)\n"
+PLAIN = ("import sys\nfrom distributed import Client\nClient('tcp://127.0.0.1:' + sys.argv[1], "
+         "timeout=2).submit(int).result(timeout=2)\n")
 
 
 def answers_plainly(python, port):
     """Whether a port does what somebody without a certificate asks."""
-    return harness.run([python, "-c", PLAIN, str(port)], seconds=20).status == 0
+    return harness.run([python, "-c", PLAIN, str(port)], seconds=sites.LATEST).status == 0
 
 
 LEVELS = """
@@ -554,7 +624,8 @@ def levels(python, folder):
     keys = sorted((f"BANK{part % 7}", f"{part}") for part in range(1100))
 
     def messages_of(some):
-        return [f'{{"InstgAgt":"{bank}","MsgId":"{tx}","MsgNmId":"pacs.008.001.08","Part":"{tx}"}}' for bank, tx in some]
+        return [f'{{"InstgAgt":"{bank}","MsgId":"{tx}","MsgNmId":"pacs.008.001.08","Part":"{tx}"}}'
+                for bank, tx in some]
 
     right = {"status": [line for bank, tx in keys for line in (f"T|{bank}|{tx}|PENDING", f"F|{bank}|{tx}|Identity")],
              "archive": messages_of(keys), "kept": messages_of(key for key in keys if int(key[1]) % 3),
@@ -562,11 +633,14 @@ def levels(python, folder):
              "report": ["HEADER", "AA,9,UNKNOWN", *(f"{bank},{tx},x" for bank, tx in keys)],
              "totals": [f"BANK{n}|{len(range(n, 1100, 7))}|{len(range(n, 1100, 7)) / 10:.2f}" for n in range(7)],
              "refused": [f"line {part + 1}: 31" for part in range(1100)]}
-    yield reported("texts of 1,100 parts", done.status == 0 and texts == right, f"{done}, {[word for word in right if texts.get(word) != right[word]]}")
+    yield reported("texts of 1,100 parts", done.status == 0 and texts == right,
+                   f"{done}, {[word for word in right if texts.get(word) != right[word]]}")
     shared = ran("shared", "status")
-    yield reported("a transfer in two of them", shared.status == 1 and b"the parts 3 and 906 share the transfer" in shared.errors, f"{shared}")
+    yield reported("a transfer in two of them",
+                   shared.status == 1 and b"the parts 3 and 906 share the transfer" in shared.errors, f"{shared}")
     shared = ran("both", "archive")
-    yield reported("an identity in two of them", shared.status == 1 and b"share the identity" in shared.errors, f"{shared}")
+    yield reported("an identity in two of them", shared.status == 1 and b"share the identity" in shared.errors,
+                   f"{shared}")
 
 
 CLUSTER = """
@@ -601,7 +675,8 @@ def made_up(number, python, program, folder, address):
     lines = small_input(r)
     report = listed(r, lines, its / "rows.list")
     tried = Tried(python, program, files_of(r, its, lines, r.randint(1, 4)), report)
-    return tried.is_right(f"made-up input {number}", its / "out", "--scheduler", address, "--parts", str(r.randint(1, 6)),
+    return tried.is_right(f"made-up input {number}", its / "out", "--scheduler", address,
+                          "--parts", str(r.randint(1, 6)),
                           "--block", str(r.choice([1, 1000, 10000])))
 
 
@@ -651,13 +726,16 @@ def main():
     many = int(sys.argv[1]) if len(sys.argv) > 1 else FEWER_MADE_UP if program == str(harness.STAND_IN) else MADE_UP
     right = []
     for tried in (lambda folder: examples(python, program, folder), lambda folder: large(r, python, program, folder),
-                  lambda folder: going_on(r, python, program, folder), lambda folder: refusing(r, python, program, folder),
-                  lambda folder: checking(python, program, folder),
+                  lambda folder: going_on(r, python, program, folder),
+                  lambda folder: refusing(r, python, program, folder),
+                  lambda folder: checking(python, program, folder), lambda folder: explaining(python, program, folder),
                   lambda folder: sizing(python, program, folder), lambda folder: progressing(),
-                  lambda folder: keeping(r, python, program, folder), lambda folder: noticing(r, python, program, folder),
+                  lambda folder: keeping(r, python, program, folder),
+                  lambda folder: noticing(r, python, program, folder),
                   lambda folder: beginning_anew(r, python, program, folder),
                   lambda folder: private(r, python, program, folder), lambda folder: levels(python, folder),
-                  lambda folder: over_tls(r, python, program, folder), lambda folder: all_made_up(many, python, program, folder),
+                  lambda folder: over_tls(r, python, program, folder),
+                  lambda folder: all_made_up(many, python, program, folder),
                   lambda folder: dask_words(python), lambda folder: page(python, program, folder)):
         with tempfile.TemporaryDirectory() as folder:
             right += tried(folder)

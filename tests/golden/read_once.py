@@ -1,12 +1,14 @@
 """read_once.py: the program reads each file once, and an input up to its first end.
 
-The files are those of `site`, `vector`, `cut`, `run` and `report`. One of them is a pipe or a FIFO, or all are. A pipe that is read
-again is empty, and a FIFO that is opened again has nobody who writes. So the answer must be the one about regular files.
+The files are those of `site`, `vector`, `cut`, `run` and `report`. One of them is a pipe or a FIFO, or all are. A pipe
+that is read again is empty, and a FIFO that is opened again has nobody who writes. So the answer must be the one about
+regular files.
 
-The input of each command that has one is typed at a terminal. Ctrl-D ends it on an empty line. In a line its second time does. A
-program that reads on waits for more. It is stopped then, and has failed.
+The input of each command that has one is typed at a terminal. Ctrl-D ends it on an empty line. In a line its second
+time does. A program that reads on waits for more. It is stopped then, and has failed.
 
-The input comes from a socket that gives one line to each read, and loses what is beyond the room. So each read must have room for a line.
+The input comes from a socket that gives one line to each read, and loses what is beyond the room. So each read must
+have room for a line.
 """
 import contextlib
 import os
@@ -64,7 +66,8 @@ def commands(folder):
         yield words, 3, b"", Answer(text.encode(), refused.encode(), status)
     run = two_files(folder)
     yield run.words, 2, b"", Answer(run.text, run.refused, run.status)
-    text, refused, listed = ((EXAMPLES / f"settlement-day.{suffix}").read_bytes() for suffix in ("report", "refused", "jsonl"))
+    text, refused, listed = ((EXAMPLES / f"settlement-day.{suffix}").read_bytes()
+                             for suffix in ("report", "refused", "jsonl"))
     yield [*REPORT, str(EXAMPLES / "settlement-day.list")], 1, listed, Answer(text, refused, 1 if refused else 0)
 
 
@@ -125,7 +128,8 @@ def at_each(program, folder):
     served = Answer(site.ready() + site.reply(b"? vector")[0], b"", 0)
     asked = [("on an empty line", ["serve", "1", "2", "journal"], b"? vector\n" + END, served)]
     for words, lines, wanted in inputs(folder):
-        asked += [("on an empty line", words, lines + END, wanted), ("twice in a line", words, lines[:-1] + END + END, wanted)]
+        asked += [("on an empty line", words, lines + END, wanted),
+                  ("twice in a line", words, lines[:-1] + END + END, wanted)]
     for words, lines, wanted in inputs(folder):
         found = at_socket(program, words, lines)
         yield reported(f"{words[0]} at a socket", found == wanted, f"{found}")
@@ -137,7 +141,8 @@ def at_each(program, folder):
 def main():
     program = harness.program()
     with tempfile.TemporaryDirectory() as folder:
-        right = [is_read_once(program, folder, kind, command) for kind in (pipes, fifos) for command in commands(folder)]
+        right = [is_read_once(program, folder, kind, command) for kind in (pipes, fifos)
+                 for command in commands(folder)]
         right += at_each(program, folder)
     harness.end_of(right)
 

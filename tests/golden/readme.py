@@ -1,8 +1,8 @@
 """readme.py: the commands of README.md print what the page shows, at the top of the repository.
 
-The page has two commands of the toolchain and no other. `rt try -- WORDS` builds the program and runs it. Here the program runs with these
-words in its place: it must end with status 0 and print what the example has for its input. The other one is the command of `.ci/run`. The
-page has 8,000 bytes at most.
+The page has two commands of the toolchain and no other. `rt try -- WORDS` builds the program and runs it. Here the
+program runs with these words in its place: it must end with status 0 and print what the example has for its input. The
+other one is the command of `.ci/run`. The page has 8,000 bytes at most.
 """
 import re
 import tempfile
@@ -47,7 +47,8 @@ def main():
         right = [harness.reported(command, prints(command, lines, commands)) for _, command, lines in shown(page)]
         first, *others = of_toolchain(page)
         right.append(harness.reported(first, is_built_as_shown(first, commands)))
-    right.append(harness.reported("the gate, and no other command of the toolchain", others == [command_of_gate()], f"{others}"))
+    right.append(harness.reported("the gate, and no other command of the toolchain", others == [command_of_gate()],
+                                  f"{others}"))
     right.append(harness.reported("8,000 bytes", len(page.encode()) <= MOST))
     harness.end_of(right)
 

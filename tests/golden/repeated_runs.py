@@ -1,7 +1,7 @@
 """repeated_runs.py: what threads do side by side is answered the same each time, however they are scheduled.
 
-`run` takes two small files at two sites, 200 times. The test `desk_shared` of crates/sct_run_tests, in which three threads share a
-desk, must pass 100 times and print the same each time.
+`run` takes two small files at two sites, 200 times. The test `desk_shared` of crates/sct_run_tests, in which three
+threads share a desk, must pass 100 times and print the same each time.
 """
 import os
 import pathlib

@@ -1,8 +1,8 @@
 """shown.py: the commands that a page shows, and what they print when a shell runs them.
 
-A block of a page is indented. A line `$ COMMAND` of it is a command, and lines `> MORE` directly below are its further lines. The lines
-below these, up to the next command or the end of the block, are what it prints on both outputs. A line `..` stands for any number of
-lines. `sct_sites` is the program.
+A block of a page is indented. A line `$ COMMAND` of it is a command, and lines `> MORE` directly below are its further
+lines. The lines below these, up to the next command or the end of the block, are what it prints on both outputs. A line
+`..` stands for any number of lines. `sct_sites` is the program.
 """
 from __future__ import annotations
 import os
@@ -17,7 +17,8 @@ LEFT_OUT = ".."
 
 
 def blocks(text: str) -> Iterator[tuple[int, list[str]]]:
-    """The blocks from their first command on, each as the number of its first line and its lines without their indent."""
+    """The blocks from their first command on, each as the number of its first line and its lines without their
+    indent."""
     for match in re.finditer(r"^( +)\$ .*\n(?:\1.*\n)*", text, re.MULTILINE):
         first = text.count("\n", 0, match.start()) + 1
         yield first, [line[len(match.group(1)):] for line in match.group().splitlines()]
@@ -69,7 +70,8 @@ def place(folder: str, program: str) -> pathlib.Path:
 
 
 def shell(command: str, where: pathlib.Path, commands: pathlib.Path, **variables: str) -> tuple[str, int]:
-    """What a command prints on both outputs in a folder, and the status that it ends with. The place of the program is known."""
+    """What a command prints on both outputs in a folder, and the status that it ends with. The place of the program is
+    known."""
     path = os.pathsep.join([str(commands), os.environ.get("PATH", os.defpath)])
     environment = {**os.environ, "PATH": path, "LC_ALL": "C", "PYTHONIOENCODING": "utf-8"}
     environment.pop("SCT_SITES", None)

@@ -1,10 +1,10 @@
 """too_long.py: the program refuses inputs of one byte more than 1 GiB, and folders in place of files.
 
-An input that is too long is `fault 60`: in a file of `run`, in the list of `report`, on standard input, in a journal and in a delta. A
-folder in place of a file of `run` or of a list is `fault 62`. In `run` it is the second of two files, so each file must be read by its
-own path. A day of `keep` that is not valid is `fault 64` before any input is read, with a line that names the day. A fault is all that is
-written, and ends the program with 2.
-The long file is sparse and takes no room on the disk. The program takes up to 2 GiB of memory.
+An input that is too long is `fault 60`: in a file of `run`, in the list of `report`, on standard input, in a journal
+and in a delta. A folder in place of a file of `run` or of a list is `fault 62`. In `run` it is the second of two files,
+so each file must be read by its own path. A day of `keep` that is not valid is `fault 64` before any input is read,
+with a line that names the day. A fault is all that is written, and ends the program with 2. The long file is sparse and
+takes no room on the disk. The program takes up to 2 GiB of memory.
 """
 import os
 import pathlib
@@ -37,7 +37,8 @@ def cases(folder):
     yield "keep of an input that is too long", ["keep", "2024-05-02"], longer, TOO_LONG
     yield "keep of a day that is none, and of an input that is too long", ["keep", "2024-5-02"], longer, NO_DAY
     yield "a journal that is too long", ["vector", "1", "2", longer], os.devnull, TOO_LONG
-    yield "a delta that is too long, after a wrong one", ["cut", "1", "2", "-", short, short, longer], os.devnull, TOO_LONG
+    yield "a delta that is too long, after a wrong one", ["cut", "1", "2", "-", short, short,
+                                                          longer], os.devnull, TOO_LONG
     yield "run of a short file and a folder", ["run", short, folder], os.devnull, UNREAD
     yield "report on a folder", [*REPORT, folder], os.devnull, UNREAD
 

@@ -1,7 +1,8 @@
-"""first_steps.py: the commands of docs/users/hub.md do what the page shows, from the first look to three sites with TLS and roles.
+"""first_steps.py: the commands of docs/users/hub.md do what the page shows, from the first look to three sites with TLS
+and roles.
 
-They run in a folder that has services/ and examples/. Ports are free ones in place of those of the page. A command that ends with & goes on, and
-the next one waits until the site is well.
+They run in a folder that has services/ and examples/. Ports are free ones in place of those of the page. A command that
+ends with & goes on, and the next one waits until the site is well.
 """
 import os
 import pathlib
@@ -16,12 +17,14 @@ from tests.hub import sites
 from tests.hub.sites import until
 
 PAGE = TOP / "docs" / "users" / "hub.md"
-SECTIONS = [["A first look", "Ask it", "Messages in XML"], ["Three sites with TLS and roles"]]  # those in a row are about one hub
+# those in a row are about one hub
+SECTIONS = [["A first look", "Ask it", "Messages in XML"], ["Three sites with TLS and roles"]]
 SILENT = {"stdout": subprocess.DEVNULL, "stderr": subprocess.DEVNULL}
 
 
 def commands(section):
-    """The commands of a section of the page, each with the lines that follow it: what it prints, or what is written to a file."""
+    """The commands of a section of the page, each with the lines that follow it: what it prints, or what is written to
+    a file."""
     text = PAGE.read_text(encoding="utf-8").split(f"\n## {section}\n")[1].split("\n## ")[0]
     lines = [line[4:] for line in text.splitlines() if line.startswith("    ")]
     found = []
@@ -39,7 +42,8 @@ def is_ready(folder, port, is_secure):
     scheme = "https" if is_secure else "http"
 
     def ask(site):
-        return harness.run(["curl", "-s", "--max-time", "10", *words, f"{scheme}://localhost:{port + site}/ready"], cwd=folder).text == b"ready\n"
+        return harness.run(["curl", "-s", "--max-time", "10", *words, f"{scheme}://localhost:{port + site}/ready"],
+                           cwd=folder).text == b"ready\n"
 
     return all(map(ask, range(3)))
 
@@ -57,7 +61,7 @@ def does(command, lines, folder, variables):
     def once():
         done = harness.run(["sh", "-c", command], cwd=folder, env=variables, seconds=60)
         return done.status == 0 and (not lines or done.text.decode().splitlines() == lines)
-    return until(once, 10) if command.startswith("curl") and "--data" not in command else once()
+    return until(once) if command.startswith("curl") and "--data" not in command else once()
 
 
 def ended(process):

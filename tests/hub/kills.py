@@ -1,20 +1,22 @@
 """kills.py: sites that are killed at any moment lose nothing and make nothing up.
 
-Three sites run after one command, each with a process `serve` below it. Several clients post lines to any of them: messages, some of
-them twice and at two sites, messages that contradict each other, refused lines and blank ones. A client sends a post again, to any site,
-until it is acknowledged; some posts it gives up after the first failure. Meanwhile sites are killed by signal 9, and every second time the
-process of one, and start again. In the end:
+Three sites run after one command, each with a process `serve` below it. Several clients post lines to any of them:
+messages, some of them twice and at two sites, messages that contradict each other, refused lines and blank ones. A
+client sends a post again, to any site, until it is acknowledged; some posts it gives up after the first failure.
+Meanwhile sites are killed by signal 9, and every second time the process of one, and start again. In the end:
 
 - each outcome is the right one, and each acknowledged number has its line in that site's journal;
 - each acknowledged message is held, and each message that is held was sent;
 - no site ever refused a delta by 42 or 43;
-- all sites answer equal archive, status and totals texts, and these are the right ones by tests/oracle and by the program;
+- all sites answer equal archive, status and totals texts, and these are the right ones by tests/oracle and by the
+program;
 - lines were acknowledged, and a kill met posts under way.
 
-Sites and clients know each other by certificates, and clients have roles; with --plain there are neither. At the end the record of each site is
-whole, by an audit.
+Sites and clients know each other by certificates, and clients have roles; with --plain there are neither. At the end
+the record of each site is whole, by an audit.
 
-`python3 -m tests.hub.kills --kills 100 --messages 20000` is the long form. The gate runs the short one. It ends after --seconds in any case.
+`python3 -m tests.hub.kills --kills 100 --messages 20000` is the long form. The gate runs the short one. It ends after
+--seconds in any case.
 """
 import argparse
 import collections
@@ -113,7 +115,8 @@ def client(r, ask, port, lines):
 
 
 def victim(r, hub, lines, number):
-    """A process to kill: of a site, or the process `serve` of one. Half of the times it is one that a client posts to just now."""
+    """A process to kill: of a site, or the process `serve` of one. Half of the times it is one that a client posts to
+    just now."""
     while not lines.is_over():
         running = hub.served() if number % 2 else hub.children()
         if running and r.random() < 0.5:
@@ -129,7 +132,8 @@ def killed(r, hub, lines, kills):
     """Kills sites, each at any moment, and lets the clients go on meanwhile."""
     for number in range(1, kills + 1):
         lines.share = (number + 2) / (kills + 1)
-        sites.until(lambda: lines.sent() >= number / (kills + 1), 20)  # on a slow machine sites need their time to start
+        # on a slow machine sites need their time to start
+        sites.until(lambda: lines.sent() >= number / (kills + 1), 20)
         time.sleep(r.uniform(0, 0.1))
         process = victim(r, hub, lines, number)
         if process is None:
@@ -169,9 +173,9 @@ def messages_of(lines):
     return {message for message, refusal in map(message_in, lines) if refusal is None}
 
 
-def same_texts(ask, port):
+def same_texts(ask, port, numbers=range(1, SITES + 1)):
     """The archive, status and totals texts, if all sites answer equal ones."""
-    texts = {name: {ask(port + site, f"/{name}").body for site in range(SITES)} for name in oracle.TEXT}
+    texts = {name: {ask(port + site - 1, f"/{name}").body for site in numbers} for name in oracle.TEXT}
     return {name: all_texts.pop() for name, all_texts in texts.items() if len(all_texts) == 1}
 
 
@@ -185,13 +189,13 @@ def program_texts(program, texts):
     return all(harness.run([program, name], texts["archive"]).text == texts[name] for name in oracle.TEXT)
 
 
-def vectors(ask, port):
-    return {ask(port + site, "/vector").body for site in range(SITES)}
+def vectors(ask, port, numbers=range(1, SITES + 1)):
+    return {ask(port + site - 1, "/vector").body for site in numbers}
 
 
-def audits(hub):
+def audits(hub, numbers=range(1, SITES + 1)):
     """What an audit says of the record of each site, if it finds something wrong."""
-    for site in range(1, SITES + 1):
+    for site in numbers:
         done = harness.run([*hub.command, f"--site={site}", "--audit"], env=hub.variables)
         if done.status:
             yield f"site {site}: {done.text.decode()}{done.errors.decode()}"
@@ -211,7 +215,8 @@ def judged(program, asked, lines, texts, kept, log):
     yield "no site refused a delta by 42 or 43, or ended by itself", not wrong, "\n".join(wrong[:5])
     yield "the texts are those of tests/oracle", are_right(texts, held), ""
     yield "the texts are those of the program", len(texts) == len(oracle.TEXT) and program_texts(program, texts), ""
-    yield f"all {asked.kills} kills were made, and all lines were sent in time", lines.kills == asked.kills and not lines.posts, ""
+    yield (f"all {asked.kills} kills were made, and all lines were sent in time",
+           lines.kills == asked.kills and not lines.posts, "")
     yield "half of the lines at least were acknowledged", 2 * len(lines.acknowledged) >= asked.messages, ""
     yield "kills met posts under way", sum(lines.failures.values()) > 0, ""
 
@@ -230,19 +235,22 @@ def check(python, program):
     asked = options()
     if not asked.plain and shutil.which("openssl") is None:
         raise sites.Skipped("there is no openssl: apt-get install openssl")
-    with sites.library() if not asked.plain else contextlib.nullcontext("") as library, tempfile.TemporaryDirectory(prefix="hub-kills-") as folder:
+    with sites.library() if not asked.plain else contextlib.nullcontext("") as library, tempfile.TemporaryDirectory(
+            prefix="hub-kills-") as folder:
         port, data = sites.free_ports(SITES), pathlib.Path(folder, "hub")
         ask, words, config = asking(asked, folder, port, data)
-        return killed_hub(asked, program, ask, port, sites.Hub(python, program, data, *words, config=config, NILUPPANG_LIBRARY=library))
+        return killed_hub(asked, program, ask, port,
+                          sites.Hub(python, program, data, *words, config=config, NILUPPANG_LIBRARY=library))
 
 
 def killed_hub(asked, program, ask, port, running):
     """Whether a hub that runs does what it must, while its sites are killed."""
     r = random.Random(asked.seed)
-    lines = Lines(r, made_lines(r, asked.messages), asked.seconds or 120 + asked.kills * 5 + asked.messages / 20)
+    lines = Lines(r, made_lines(r, asked.messages), asked.seconds or 300 + asked.kills * 5 + asked.messages / 20)
     with running as hub:
-        sites.until(lambda: all(ask(port + site, "/health").status == 200 for site in range(SITES)))
-        clients = [threading.Thread(target=client, args=(random.Random(r.random()), ask, port, lines), daemon=True) for _ in range(CLIENTS)]
+        sites.begun(hub.process, lambda: all(ask(port + site, "/health").status == 200 for site in range(SITES)))
+        clients = [threading.Thread(target=client, args=(random.Random(r.random()), ask, port, lines), daemon=True)
+                   for _ in range(CLIENTS)]
         for one in clients:
             one.start()
         killed(r, hub, lines, asked.kills)
@@ -254,16 +262,17 @@ def killed_hub(asked, program, ask, port, running):
         texts = same_texts(ask, port)
     right = [reported(*one) for one in judged(program, asked, lines, texts, journals(hub.folder), hub.text())]
     wrong = list(audits(hub))
-    right.append(reported("the record of each site is whole, and has each line of its journal", not wrong, "\n".join(wrong)))
+    right.append(reported("the record of each site is whole, and has each line of its journal", not wrong,
+                          "\n".join(wrong)))
     if not all(right):
         print(*hub.text().splitlines()[-30:], sep="\n")
     return right
 
 
-def options():
+def options(kills=6, messages=1000):
     it = argparse.ArgumentParser(description=__doc__, formatter_class=argparse.RawDescriptionHelpFormatter)
-    it.add_argument("--kills", type=int, default=6)
-    it.add_argument("--messages", type=int, default=1000)
+    it.add_argument("--kills", type=int, default=kills)
+    it.add_argument("--messages", type=int, default=messages)
     it.add_argument("--seed", type=int, default=20261127)
     it.add_argument("--seconds", type=float, help="after which the clients end")
     it.add_argument("--plain", action="store_true", help="without TLS and roles")

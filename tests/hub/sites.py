@@ -1,4 +1,5 @@
-"""sites.py: starts sites of services/hub for a check, and asks them over HTTP. They run on the program, or on its stand-in."""
+"""sites.py: starts sites of services/hub for a check, and asks them over HTTP. They run on the program, or on its
+stand-in."""
 from __future__ import annotations
 import contextlib
 import glob
@@ -21,7 +22,8 @@ from tools import library as libraries
 
 MAIN = SERVICES / "hub" / "main.py"
 PACKAGES = "python3-aiohttp"
-LATEST = 30  # seconds in which something must come about
+LATEST = 60  # seconds in which something must come about, also on a busy machine
+LONGEST = 300  # seconds in which an answer must come, and a site must start
 
 
 class Answer(NamedTuple):
@@ -44,8 +46,8 @@ def interpreter() -> str:
 
 @contextlib.contextmanager
 def library() -> Iterator[str]:
-    """The path of the library: the one that a variable names, else one that is made of what the gate leaves, else a stand-in of the
-    definitions. Nothing is proved for it. A line says which it is."""
+    """The path of the library: the one that a variable names, else one that is made of what the gate leaves, else a
+    stand-in of the definitions. Nothing is proved for it. A line says which it is."""
     named = os.environ.get("NILUPPANG_LIBRARY")
     if named and not os.path.isfile(named):
         raise Skipped(f"there is no library {named}, which NILUPPANG_LIBRARY names")
@@ -62,7 +64,8 @@ def library() -> Iterator[str]:
 def stand_in(folder: str) -> pathlib.Path:
     """A stand-in for the library, made in a folder."""
     path, source = pathlib.Path(folder, "libniluppang.so"), harness.STAND_IN.parent
-    words = ["-std=gnu11", "-Wall", "-Wextra", "-Werror", "-shared", "-fPIC", f"-I{TOP / 'include'}", f'-DSERVER="{source / "library.py"}"']
+    words = ["-std=gnu11", "-Wall", "-Wextra", "-Werror", "-shared", "-fPIC", f"-I{TOP / 'include'}",
+             f'-DSERVER="{source / "library.py"}"']
     done = harness.run(["gcc", *words, source / "library.c", "-o", path, "-lpthread"])
     if done.status:
         raise Skipped(f"the stand-in of the library is not built: {done.errors.decode(errors='replace')[:300]}")
@@ -84,22 +87,56 @@ def checked(check: Callable[..., Any]) -> None:
     ended(check, interpreter, harness.program_or_stand_in)
 
 
-handed_out = [21000 + os.getpid() % 4000 * 4]  # the port after those that this check was given
+class Ports:
+    """Ports of this check alone, as long as it runs: of each block there is a name, which the system gives to one
+    process at a time. The blocks are below the ports that the system gives to connections."""
+    FIRST, END, BLOCK = 10000, 32000, 200
+
+    def __init__(self) -> None:
+        self.names: list[socket.socket] = []
+        self.left = range(0)
+
+    def begin_block(self) -> None:
+        """Goes on in a block that no check has."""
+        for first in range(self.FIRST, self.END, self.BLOCK):
+            name = socket.socket(socket.AF_UNIX)
+            with contextlib.suppress(OSError):
+                name.bind(f"\0niluppang-ports-{first}")
+                self.names.append(name)
+                self.left = range(first, first + self.BLOCK)
+                return
+        raise Skipped("no port is free")
+
+    def next(self, many: int) -> range:
+        """The next ports in a row."""
+        if len(self.left) < many:
+            self.begin_block()
+        found, self.left = self.left[:many], self.left[many:]
+        return found
 
 
-one_at_a_time = threading.Lock()
+ports, one_at_a_time = Ports(), threading.Lock()
+
+
+def is_free(port: int) -> bool:
+    """Whether nobody listens at a port."""
+    with socket.socket() as its, contextlib.suppress(OSError):
+        its.bind(("127.0.0.1", port))
+        return True
+    return False
 
 
 def free_ports(many: int) -> int:
-    """Ports in a row that nobody listens at, and that this check was not given before: a site that is killed comes back to its own."""
+    """Ports in a row that nobody listens at, and that this check was not given before: a site that is killed comes back
+    to its own."""
     with one_at_a_time:
-        for first in range(handed_out[-1], 60000, many):
-            with contextlib.ExitStack() as stack, contextlib.suppress(OSError):
-                for port in range(first, first + many):
-                    stack.enter_context(socket.socket()).bind(("127.0.0.1", port))
-                handed_out.append(first + many)
-                return first
-    raise Skipped("no port is free")
+        return next(found[0] for found in iter(lambda: ports.next(many), range(0)) if all(map(is_free, found)))
+
+
+def begun(process: subprocess.Popen[bytes], is_so: Callable[..., Any]) -> bool:
+    """Whether a site that was started comes to be as it must, before it ends: a busy machine needs a minute to start
+    one."""
+    return until(lambda: process.poll() is not None or is_so(), LONGEST) and process.poll() is None
 
 
 def until(is_so: Callable[..., Any], seconds: float = LATEST) -> bool:
@@ -113,15 +150,17 @@ def until(is_so: Callable[..., Any], seconds: float = LATEST) -> bool:
     return False
 
 
-def asked(port: int, path: str, body: bytes | None = None, timeout: int = 60, **headers: str) -> Answer:
+def asked(port: int, path: str, body: bytes | None = None, timeout: int = LONGEST, **headers: str) -> Answer:
     """The answer of a site to a request."""
     return answer_on(http.client.HTTPConnection("127.0.0.1", port, timeout=timeout), path, body, headers)
 
 
 def answer_on(connection: http.client.HTTPConnection, path: str, body: bytes | None, headers: dict[str, str]) -> Answer:
-    """The answer to a request on a connection, which is closed then. A low line in a name of a header is written for a dash."""
+    """The answer to a request on a connection, which is closed then. A low line in a name of a header is written for a
+    dash."""
     try:
-        connection.request("GET" if body is None else "POST", path, body, {name.replace("_", "-"): it for name, it in headers.items()})
+        connection.request("GET" if body is None else "POST", path, body,
+                           {name.replace("_", "-"): it for name, it in headers.items()})
         answer = connection.getresponse()
         return Answer(answer.status, answer.read(), dict(answer.getheaders()))
     finally:
@@ -134,7 +173,8 @@ def outcomes(answer: Answer) -> list[dict[str, int | str]]:
 
 
 def refusal_of(outcome: dict[str, Any]) -> str:
-    """What the program prints of a line, in an outcome that is REFUSED. The name of its code and a sentence follow it there."""
+    """What the program prints of a line, in an outcome that is REFUSED. The name of its code and a sentence follow it
+    there."""
     return outcome["why"].partition(f" ({outcome['name']}: ")[0]
 
 
@@ -147,11 +187,13 @@ def error_of(answer: Answer) -> tuple[int, int, str, str]:
 class Hub:
     """A process of main.py with these words, in a folder, whose output goes to a file."""
 
-    def __init__(self, python: str, program: str, folder: pathlib.Path, *words: str, room: Any = None, config: pathlib.Path | None = None,
+    def __init__(self, python: str, program: str, folder: pathlib.Path, *words: str, room: Any = None,
+                 config: pathlib.Path | None = None,
                  **variables: Any) -> None:
         self.folder, self.log = pathlib.Path(folder), pathlib.Path(f"{folder}.log")
         clean = {name: it for name, it in os.environ.items() if name not in ("PYTHONHOME", "PYTHONPATH")}
-        self.command = [python, "-u", str(MAIN), *([f"--config={config}"] if config else [str(folder)]), *map(str, words)]
+        self.command = [python, "-u", str(MAIN), *([f"--config={config}"] if config else [str(folder)]),
+                        *map(str, words)]
         self.variables = {**clean, "SCT_SITES": program, **variables}
         self.room = room
         self.start()
@@ -182,12 +224,14 @@ class Hub:
 
     def children(self) -> dict[Any, Any]:
         """The processes of the sites that it runs, by number."""
-        return {int(words[words.index("--only") + 1]): process for process, words in below(self.process.pid) if "--only" in words}
+        return {int(words[words.index("--only") + 1]): process for process, words in below(self.process.pid)
+                if "--only" in words}
 
     def served(self) -> dict[int, int]:
         """The processes `serve`, each below a site, by number."""
         sites = list(self.children().values()) or [self.process.pid]
-        return {int(words[words.index("serve") + 1]): process for site in sites for process, words in below(site) if "serve" in words}
+        return {int(words[words.index("serve") + 1]): process for site in sites for process, words in below(site)
+                if "serve" in words}
 
     def __enter__(self) -> Hub:
         return self
@@ -226,4 +270,5 @@ def own_lines(path: pathlib.Path) -> list[bytes]:
 
 def write_journal(path: pathlib.Path, site: int, group: int, lines: list[bytes] | tuple[()]) -> None:
     """Makes a journal that keeps these lines."""
-    pathlib.Path(path).write_bytes(b"".join(b" " + line + b"\n" for line in [b"site %d %d" % (site, group), *lines]) + b"\t")
+    pathlib.Path(path).write_bytes(b"".join(b" " + line + b"\n"
+                                            for line in [b"site %d %d" % (site, group), *lines]) + b"\t")

@@ -1,13 +1,15 @@
-"""trial.py: what the checks of single sites share: sites in folders of their own, made-up lines, open connections, and events."""
+"""trial.py: what the checks of single sites share: sites in folders of their own, made-up lines, open connections, and
+events."""
 from __future__ import annotations
 import contextlib
 import json
 import pathlib
+import select
 import socket
 from typing import Any, Iterator
 from tests import inputs
 from tests.hub import sites
-from tests.hub.sites import Hub, asked, until
+from tests.hub.sites import Hub, asked
 from tests.oracle.status import read_message, written
 from tests.harness import Answer
 
@@ -40,27 +42,33 @@ class Trial:
             return self.folder / f"{self.number}-{name}"
 
     @contextlib.contextmanager
-    def site(self, folder: pathlib.Path, *words: str, number: int = 1, is_well: bool = True, port: int | None = None, program: Any = None,
+    def site(self, folder: pathlib.Path, *words: str, number: int = 1, is_well: bool = True,
+             port: int | None = None, program: Any = None,
              **more: Any) -> Iterator[None]:
-        """One site in a folder, which serves and is well, or serves if it is not. Nobody asks it if `is_well` is None."""
+        """One site in a folder, which serves and is well, or serves if it is not. Nobody asks it if `is_well` is
+        None."""
         port = port or sites.free_ports(1)
-        with Hub(self.python, program or self.program, folder, f"--site={number}", f"--port={port}", *words, **more) as hub:
+        with Hub(self.python, program or self.program, folder, f"--site={number}", f"--port={port}", *words,
+                 **more) as hub:
             hub.port = port
-            until(lambda: is_well is None or sites.is_well(port) if is_well is not False else asked(port, "/health"))
+            sites.begun(hub.process, lambda: is_well is None or sites.is_well(port) if is_well is not False
+                        else asked(port, "/health"))
             yield hub
 
     def fails(self, folder: pathlib.Path, *words: str, number: int = 1, **variables: Any) -> tuple[int | None, str]:
         """The exit status of a site that does not start, and what it says."""
-        with Hub(self.python, self.program, folder, f"--site={number}", f"--port={sites.free_ports(1)}", *words, **variables) as hub:
+        with Hub(self.python, self.program, folder, f"--site={number}", f"--port={sites.free_ports(1)}", *words,
+                 **variables) as hub:
             try:
-                return hub.process.wait(sites.LATEST), hub.text()
+                return hub.process.wait(sites.LONGEST), hub.text()
             except sites.subprocess.TimeoutExpired:
                 return None, hub.text()
 
     def ran(self, folder: pathlib.Path, *words: str, number: int = 1, program: Any = None) -> Answer:
         """The answer of main.py to words after which it ends by itself."""
         variables = {**sites.os.environ, "SCT_SITES": program or self.program}
-        return sites.harness.run([self.python, str(sites.MAIN), str(folder), f"--site={number}", *words], env=variables, seconds=60)
+        return sites.harness.run([self.python, str(sites.MAIN), str(folder), f"--site={number}", *words], env=variables,
+                                 seconds=sites.LONGEST)
 
     def print_logs(self) -> None:
         """Prints the last lines of each site."""
@@ -70,18 +78,19 @@ class Trial:
 
 def raw(port: int, text: bytes) -> socket.socket:
     """An open connection, on which a text was sent."""
-    connection = socket.create_connection(("127.0.0.1", port), 20)
+    connection = socket.create_connection(("127.0.0.1", port), sites.LATEST)
     connection.sendall(text)
     return connection
 
 
 def head(method: str, path: str, *more: str, length: int | None = None) -> bytes:
     """The head of a request."""
-    lines = [f"{method} {path} HTTP/1.1", "Host: localhost", *more] + ([] if length is None else [f"Content-Length: {length}"])
+    lines = [f"{method} {path} HTTP/1.1", "Host: localhost",
+             *more] + ([] if length is None else [f"Content-Length: {length}"])
     return "".join(f"{line}\r\n" for line in [*lines, ""]).encode("latin-1")
 
 
-def status_of(connection: socket.socket, seconds: float = 10) -> int | None:
+def status_of(connection: socket.socket, seconds: float = sites.LATEST) -> int | None:
     """The status that a connection is answered with, or None if it is closed or silent."""
     connection.settimeout(seconds)
     with contextlib.suppress(OSError):
@@ -90,16 +99,25 @@ def status_of(connection: socket.socket, seconds: float = 10) -> int | None:
     return None
 
 
-def answered(port: int, text: bytes, seconds: int = 10) -> int:
+def answered(port: int, text: bytes) -> int:
     """The status of the answer to a request that is sent as it is."""
     connection = raw(port, text)
     try:
-        return status_of(connection, seconds)
+        return status_of(connection)
     finally:
         connection.close()
 
 
-def is_closed(connection: Any, seconds: Any) -> bool:
+def is_answered(connection: socket.socket, status: int) -> bool:
+    """Whether a connection has been answered with a status by now. The answer may be read again."""
+    if not select.select([connection], [], [], 0)[0]:
+        return False
+    with contextlib.suppress(OSError):
+        return connection.recv(200, socket.MSG_PEEK).split(b" ")[1:2] == [b"%d" % status]
+    return False
+
+
+def is_closed(connection: Any, seconds: Any = sites.LATEST) -> bool:
     """Whether the other side closes a connection in some seconds. What it sends before is read."""
     connection.settimeout(seconds)
     try:

@@ -1,11 +1,14 @@
-"""What `site`, `vector` and `cut` must answer, by the definitions alone: text, refused lines and files, exit status.
+"""What `site`, `vector`, `digests` and `cut` must answer, by the definitions alone: text, refused lines and files, exit
+status.
 
 Usage: tests/oracle/exchange.py site SITE SITES JOURNAL [DELTA]..
        tests/oracle/exchange.py vector SITE SITES JOURNAL [DELTA]..
+       tests/oracle/exchange.py digests SITE SITES JOURNAL [DELTA]..
        tests/oracle/exchange.py cut SITE SITES HAVE JOURNAL [DELTA]..
 
-It takes the words of the program, writes what the program must write, and ends as it must. It has no help, and after `fault 64` no
-text of clap. A site is a list of messages for each origin. A delta is a list of runs, each an origin, a first number and messages.
+It takes the words of the program, writes what the program must write, and ends as it must. It has no help, and after
+`fault 64` no text of clap. A site is a list of messages for each origin. A delta is a list of runs, each an origin, a
+first number and messages.
 """
 import collections
 import functools
@@ -14,12 +17,14 @@ import pathlib
 import re
 import sys
 sys.path.insert(0, str(pathlib.Path(__file__).resolve().parents[2]))
+from tests.oracle.digests import Chains
 from tests.oracle.status import Refused, archive_text, end_with, lines_of, read_message, written
 
 MOST_BYTES, MOST_SITES, MOST_SITES_OF_FORM_1, BELOW = 1 << 30, 1024, 64, 1 << 64
 
 Run = collections.namedtuple("Run", "origin first messages")
-Ended = collections.namedtuple("Ended", "site refused rounds")  # rounds: the number of those in which a delta was accepted
+# rounds: the number of those in which a delta was accepted
+Ended = collections.namedtuple("Ended", "site refused rounds")
 
 
 class Fault(Exception):
@@ -167,12 +172,28 @@ def delta_in(data):
     return (form_1 if line == b"delta 1" else form_2)(lines)
 
 
+@functools.lru_cache(maxsize=1 << 16)
+def line_of(message):
+    """The line of a message in a delta text."""
+    return written(message) + "\n"
+
+
 def delta_text(runs):
     """The text of a delta, in form 2."""
     text = ["delta 2\n"]
     for origin, first, messages in runs:
-        text += [f"origin {origin} {first} {len(messages)}\n", *(written(message) + "\n" for message in messages)]
+        text += [f"origin {origin} {first} {len(messages)}\n", *map(line_of, messages)]
     return "".join([*text, f"end {sum(len(messages) for _, _, messages in runs)}\n"])
+
+
+def front_of(run, most):
+    """As many entries of a run as a delta text of so many bytes has room for, and one at least."""
+    size = 0
+    for count, message in enumerate(run.messages, 1):
+        size += len(line_of(message).encode())
+        if count > 1 and size + len(f"delta 2\norigin {run.origin} {run.first} {count}\nend {count}\n") > most:
+            return run._replace(messages=run.messages[:count - 1])
+    return run
 
 
 # ---- a site
@@ -225,6 +246,11 @@ class Site:
         logs = ((origin, have.get(origin, 0), log) for origin, log in sorted(self.logs.items()))
         return [Run(origin, held + 1, log[held:]) for origin, held, log in logs if len(log) > held]
 
+    def entries(self, origin, above, most):
+        """The entries of an origin above a count that a delta text of so many bytes has room for, as runs."""
+        lacking = self.logs.get(origin, [])[above:]
+        return [front_of(Run(origin, above + 1, lacking), most)] if lacking else []
+
 
 # ---- a run
 
@@ -241,7 +267,8 @@ def taken(site, data):
 
 
 def exchanged(own, group, journal, texts):
-    """A site after its journal and the deltas of some texts, what was refused, and in how many rounds deltas were accepted."""
+    """A site after its journal and the deltas of some texts, what was refused, and in how many rounds deltas were
+    accepted."""
     site, refused, waiting, rounds = Site(own, group), {}, {}, 0
     lines = taken(site, journal)
     for file, text in enumerate(texts, 2):
@@ -267,7 +294,7 @@ def answer(words, at="."):
     try:
         command, *words = words or [""]
         words = plain(words)
-        if command not in ("site", "vector", "cut") or len(words) < (4 if command == "cut" else 3):
+        if command not in ("site", "vector", "digests", "cut") or len(words) < (4 if command == "cut" else 3):
             raise Fault(64)
         group = site_in(words[1])
         own = site_in(words[0], group)
@@ -277,6 +304,7 @@ def answer(words, at="."):
         return "", f"fault {fault}\n", 2
     ended = exchanged(own, group, journal, texts)
     text = {"site": lambda: archive_text(ended.site.messages), "vector": lambda: ended.site.vector_text() + "\n",
+            "digests": lambda: Chains(ended.site.logs).text(),
             "cut": lambda: delta_text(ended.site.above(have))}[command]()
     return text, "".join(ended.refused), 1 if ended.refused else 0
 

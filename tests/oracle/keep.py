@@ -2,8 +2,8 @@
 
 Usage: tests/oracle/keep.py keep|closed DAY < MESSAGES
 
-A message is open if one of its transfers is not done. Kept are the open messages, then those that are tied to them, then those that are
-tied to these, until nothing is added.
+A message is open if one of its transfers is not done. Kept are the open messages, then those that are tied to them,
+then those that are tied to these, until nothing is added.
 """
 import pathlib
 import sys

@@ -2,8 +2,8 @@
 
 Usage: tests/oracle/replay.py replay < SCRIPT
 
-A site is a set of entries, each an origin, a number and a message, and nothing else: no log, no archive, no view. Its answers are
-those of the set of its messages (status.py).
+A site is a set of entries, each an origin, a number and a message, and nothing else: no log, no archive, no view. Its
+answers are those of the set of its messages (status.py).
 """
 import pathlib
 import re

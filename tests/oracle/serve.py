@@ -2,9 +2,9 @@
 
 Usage: tests/oracle/serve.py serve SITE SITES JOURNAL
 
-It takes the words of the program, reads requests on standard input, and can stand in for the program. It has no help, and after
-`fault 64` no text of clap. The site is a handle of tests/embed/model.py, so a question answers what the library's call of that name
-answers.
+It takes the words of the program, reads requests on standard input, and can stand in for the program. It has no help,
+and after `fault 64` no text of clap. The site is a handle of tests/embed/model.py, so a question answers what the
+library's call of that name answers.
 """
 import contextlib
 import fcntl
@@ -23,11 +23,14 @@ MOST_READ, MOST_REQUEST = 1 << 20, 64 << 20
 OPEN, SHUT = b" ", b"\t"
 LOCK_AT, LOCKED = 1 << 30, 512  # the bytes that SQLite locks of a database
 # the call of each question, and how many words it has; the last one of MORE is the rest of the line
-CALLS = {b"vector": ("vector_text", 0), b"cut": ("cut", 1), b"status": ("status_text", 0), b"totals": ("totals_text", 0),
-         b"archive": ("archive_text", 0), b"contradictions": ("contradictions_text", 0), b"changes": ("changes", 0),
-         b"evaluate": ("evaluate", 0), b"transfer": ("transfer_text", 2), b"messages": ("messages_text", 2), b"bank": ("bank_totals", 1),
+CALLS = {b"vector": ("vector_text", 0), b"cut": ("cut", 1), b"entries": ("entries", 3), b"digest": ("digest", 2),
+         b"digests": ("digests_text", 0), b"status": ("status_text", 0), b"totals": ("totals_text", 0),
+         b"archive": ("archive_text", 0),
+         b"contradictions": ("contradictions_text", 0), b"changes": ("changes", 0), b"evaluate": ("evaluate", 0),
+         b"transfer": ("transfer_text", 2), b"messages": ("messages_text", 2), b"bank": ("bank_totals", 1),
          b"report": ("report", 3)}
 MORE = [b"transfer", b"messages", b"report"]
+NUMBERS = [b"entries", b"digest"]  # the questions whose words are numbers
 EVALUATE = b"evaluate"  # the question whose answer is empty
 
 
@@ -85,6 +88,8 @@ class Serving:
             return b"REFUSED 64"
         if name == EVALUATE:
             return b"TEXT 0\n"
+        if name in NUMBERS:
+            words = [exchange.number(word.decode("latin-1")) for word in words]
         if name == b"report":
             words[-1] = words[-1].replace(b"\t", b"\n")
         fields, text = self.handle.call(call, *words)

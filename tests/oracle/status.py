@@ -2,7 +2,8 @@
 
 Usage: tests/oracle/status.py status|archive|totals < MESSAGES
 
-It takes the words of the program, writes what the program must write, and ends as it must. It has no help, and is for small inputs.
+It takes the words of the program, writes what the program must write, and ends as it must. It has no help, and is for
+small inputs.
 """
 import contextlib
 import json
@@ -422,7 +423,8 @@ class Clean:
 
 
 def standing(said, against):
-    """The words of the T line, of the F lines and of the R lines of a transfer, from what all messages on it say of it."""
+    """The words of the T line, of the F lines and of the R lines of a transfer, from what all messages on it say of
+    it."""
     asides = sorted({identity(msg) for msg, _ in said if identity(msg) in against})
     clean = Clean(said, against)
     recalls = sorted(recalls_named(said), key=str.encode)
@@ -450,7 +452,8 @@ def archive_text(messages):
 
 
 def totals_text(messages):
-    """Of each bank: sent, their cents, returned in, rejected, waiting, missing, contradicted, received, cents, returned out."""
+    """Of each bank: sent, their cents, returned in, rejected, waiting, missing, contradicted, received, cents, returned
+    out."""
     against, totals = contradicted(messages), {}
 
     def add(bank, place, n):

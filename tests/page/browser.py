@@ -1,11 +1,13 @@
-"""browser.py: the page answers in Chromium as the program does, is used by keys alone, opens no connection and stores nothing.
+"""browser.py: the page answers in Chromium as the program does, is used by keys alone, opens no connection and stores
+nothing.
 
-The page is web/out/niluppang.html, which web/build makes. It is given each example by its choosers, and what it saves must be the bytes
-of the files of examples/. Made-up inputs are answered as the program answers them, also if they are taken in pieces of some bytes. After
-a question that is refused the site answers as before. With little memory the page says that a file needs more, and answers a smaller
-one. The page's words are whole in each language, its parts have roles and names, and its texts can be read in two sizes, light and dark
-(shown.py). Lists as spreadsheets save them, several files, searches, findings and refused lines are shown as a clerk needs them (clerk.py).
---pictures FOLDER keeps pictures of the page.
+The page is web/out/niluppang.html, which web/build makes. It is given each example by its choosers, and what it saves
+must be the bytes of the files of examples/. Made-up inputs are answered as the program answers them, also if they are
+taken in pieces of some bytes. After a question that is refused the site answers as before. With little memory the page
+says that a file needs more, and answers a smaller one. The page's words are whole in each language, its parts have
+roles and names, and its texts can be read in two sizes, light and dark (shown.py). Lists as spreadsheets save them,
+several files, searches, findings and refused lines are shown as a clerk needs them (clerk.py). --pictures FOLDER keeps
+pictures of the page.
 """
 import argparse
 import base64
@@ -13,10 +15,12 @@ import http.server
 import json
 import pathlib
 import random
+import sys
 import tempfile
 import threading
 from tests import harness
 from tests.golden import lists, made_inputs
+from tests.golden.desk_converters import WRONG_CSVS
 from tests.golden.examples import REPORTS
 from tests.harness import EXAMPLES
 from tests.page import clerk, shown
@@ -47,34 +51,49 @@ def by_files(browser, checks):
             checks.fits(f"{example.stem} {name}", saved(browser, name), read("." + name))
         if example.stem in REPORTS:
             bank, day = REPORTS[example.stem]
-            checks.fits(f"{example.stem} report", reported(browser, bank, day, example.with_suffix(".list")), read(".report"))
+            checks.fits(f"{example.stem} report", reported(browser, bank, day, example.with_suffix(".list")),
+                        read(".report"))
 
 
 def by_wrong_files(browser, checks, folder):
-    """Lists, banks and days that are refused, each with a line that says why."""
+    """Lists, banks and days that are refused, each with a line that says why. A list has the lines of
+    list_from_csv.py."""
     answered(browser, EXAMPLES / "bank-day.jsonl")
     bad = pathlib.Path(folder, "bad.list")
-    for rows, record in lists.BAD_LISTS:
-        bad.write_text(lists.HEADER + rows)
-        line = reported(browser, "LUTEFRPP", "2025-03-10", bad)
-        checks.fits(f"the list {rows!r}", f"record {record} is wrong" in str(line), True)
-    good = EXAMPLES / "bank-day.list"
-    checks.fits("a bank in small letters", "BIC" in str(reported(browser, "lutefrpp", "2025-03-10", good)), True)
-    checks.fits("a day in another form", "2025-03-10" in str(reported(browser, "LUTEFRPP", "10.03.2025", good)), True)
-    checks.fits("no list file", "record 1 is wrong" in str(reported(browser, "LUTEFRPP", "2025-03-10", EXAMPLES / "bank-day.jsonl")), True)
+    texts = [lists.HEADER.encode() + rows for rows, _ in lists.BAD_LISTS]
+    for data in [*texts, *(text.encode() for text, _ in WRONG_CSVS if not text.startswith("PK"))]:
+        bad.write_bytes(data)
+        found = harness.run([sys.executable, harness.DESK / "list_from_csv.py", bad])
+        said = found.errors.decode().replace("list_from_csv: ", "").splitlines()
+        lines = reported(browser, "LUTEFRPP", "2025-03-10", bad)
+        right = ["bad.list is no list as a hub reads it:", *said] if found.status else lines
+        checks.fits(f"the list {data!r}", lines.splitlines() if found.status else lines[:8],
+                    right if found.status else b"DbtrAgt,")
+    good, report = EXAMPLES / "bank-day.list", (EXAMPLES / "bank-day.report").read_bytes()
+    checks.fits("a bank in small letters", reported(browser, "lutefrpp", "2025-03-10", good), report)
+    checks.fits("a bank that is none", "BIC" in str(reported(browser, "LUTEFR", "2025-03-10", good)), True)
+    for day in ("10.03.2025", "10/3/2025"):
+        checks.fits(f"the day {day}", reported(browser, "LUTEFRPP", day, good), report)
+    checks.fits("a day in a form of its own", "2025-03-10" in str(reported(browser, "LUTEFRPP", "March 10", good)),
+                True)
+    line = reported(browser, "LUTEFRPP", "2025-03-10", EXAMPLES / "bank-day.jsonl")
+    checks.fits("no list file", str(line).splitlines()[1:],
+                ["the file is JSON, as messages are: a list is CSV with the header DbtrAgt,TxId,Amt,Sts"])
 
 
 def chosen(browser, selector, path):
     """Chooses a file that the page does not read yet, and changes it."""
-    browser.value(f"window.kept_order = at('{selector}').onchange; at('{selector}').onchange = null")
+    browser.value(f"window.has_come = false; window.kept_order = at('{selector}').onchange; "
+                  f"at('{selector}').onchange = () => {{ has_come = true; }}; 0")
     browser.give(f"#{selector}", path)
+    browser.until("has_come")  # the browser says so a moment later
     browser.value(f"at('{selector}').onchange = kept_order")
     path.write_bytes(b"{}\n")
 
 
 def by_changed_files(browser, checks, folder):
-    """A file of messages is read once: the report, the archive and the messages on a transfer are those of what was read. A file that
-    changes before it is read is refused."""
+    """A file of messages is read once: the report, the archive and the messages on a transfer are those of what was
+    read. A file that changes before it is read is refused."""
     messages, listed, day = (pathlib.Path(folder, name) for name in ("changing.jsonl", "changing.list", "day.jsonl"))
     examples = {path: (EXAMPLES / f"bank-day.{path.suffix[1:]}").read_bytes() for path in (messages, listed)}
     messages.write_bytes(examples[messages])
@@ -93,7 +112,8 @@ def by_changed_files(browser, checks, folder):
     answered(browser, day)
     checks.fits("the file as it is then", saved(browser, "refused"), b"line 1: 33\n")
     chosen(browser, "list", listed)
-    browser.value("at('bank').value = 'LUTEFRPP'; at('day').value = '2025-03-10'; document.body.dataset.done = ''; at('compare').click()")
+    browser.value("at('bank').value = 'LUTEFRPP'; at('day').value = '2025-03-10'; document.body.dataset.done = ''; "
+                  "at('compare').click()")
     browser.until("document.body.dataset.done === '1'")
     checks.fits("a list that changed before it was read", browser.value(said), changed)
 
@@ -136,7 +156,8 @@ def made_up():
 
 
 def by_made_up(browser, checks):
-    """Made-up inputs, each as the program answers it. The worker takes them at once, and then in pieces of some bytes."""
+    """Made-up inputs, each as the program answers it. The worker takes them at once, and then in pieces of some
+    bytes."""
     program = harness.program()
     inputs = [*made_up(), *(one.data for one in made_inputs.made_inputs() if len(one.data) < 1 << 20)]
     right = []
@@ -146,12 +167,14 @@ def by_made_up(browser, checks):
     for piece in 1 << 26, *PIECES[1:]:
         browser.value(f"start_with({piece})")
         for place in range(0, len(inputs), 25):
-            for data, got, its in zip(inputs[place:], many(browser, TEXTS[:3], inputs[place:place + 25]), right[place:]):
+            for data, got, its in zip(inputs[place:], many(browser, TEXTS[:3], inputs[place:place + 25]),
+                                      right[place:]):
                 checks.fits(f"made-up input {data[:60]!r} in pieces of {piece}", got, its)
 
 
 def by_pieces(browser, checks):
-    """Each example in pieces of some bytes: shorter than a line, and as long as some lines. The first is shorter than any line."""
+    """Each example in pieces of some bytes: shorter than a line, and as long as some lines. The first is shorter than
+    any line."""
     examples = sorted(EXAMPLES.glob("*.jsonl"))
     right = [[path.with_suffix("." + name).read_bytes() for name in TEXTS] for path in examples]
     blank = b"\n" * 1000 + b"x\n\r\n" * 1000 + b"y"
@@ -161,7 +184,8 @@ def by_pieces(browser, checks):
         got = many(browser, TEXTS, [path.read_bytes() for path in examples])
         for path, its, texts in zip(examples, right, got):
             checks.fits(f"{path.name} in pieces of {piece}", texts, its)
-        checks.fits(f"blank lines in pieces of {piece}", many(browser, ["refused"], [blank, b"", b"\n"]), [[lines], [b""], [b""]])
+        checks.fits(f"blank lines in pieces of {piece}", many(browser, ["refused"], [blank, b"", b"\n"]),
+                    [[lines], [b""], [b""]])
 
 
 def by_refusals(browser, checks):
@@ -172,10 +196,12 @@ def by_refusals(browser, checks):
     def report(bank, date, rows):
         return browser.value(f"report_on({json.dumps(bank)}, {json.dumps(date)}, {text_of(rows)})")
 
-    for name, words, fault in [("a wrong bank", ("lutefrpp", "2025-03-10", listed), [73, 1]), ("no bank", ("", "2025-03-10", b""), [73, 1]),
-                               ("a wrong day", ("LUTEFRPP", "2025-3-10", listed), [73, 2]), ("no day", ("LUTEFRPP", "", listed), [73, 2]),
-                               ("a wrong list", ("LUTEFRPP", "2025-03-10", lists.HEADER.encode() + b"A,B,C,D\n"), [48, 2]),
-                               ("an empty list", ("LUTEFRPP", "2025-03-10", b""), [48, 1])]:
+    for name, words, fault in [
+            ("a wrong bank", ("lutefrpp", "2025-03-10", listed), [73, 1]),
+            ("no bank", ("", "2025-03-10", b""), [73, 1]),
+            ("a wrong day", ("LUTEFRPP", "2025-3-10", listed), [73, 2]), ("no day", ("LUTEFRPP", "", listed), [73, 2]),
+            ("a wrong list", ("LUTEFRPP", "2025-03-10", lists.HEADER.encode() + b"A,B,C,D\n"), [48, 0, "row_bic"]),
+            ("an empty list", ("LUTEFRPP", "2025-03-10", b""), [48, 0, "list_empty"])]:
         checks.fits(name, report(*words), fault)
         checks.fits(f"the report after {name}", base64.b64decode(report("LUTEFRPP", "2025-03-10", listed)), right)
     checks.fits("the texts after all", [saved(browser, name) for name in TEXTS], before)
@@ -220,11 +246,13 @@ def by_keys(browser, checks):
     tab_to(browser, "#tables button:nth-child(2)")
     browser.press("Enter")
     browser.until("at('caption').textContent === 'Transfers' && at('rows').querySelector('td button')")
-    checks.fits("the focus after a table is chosen", browser.value("document.activeElement?.matches('#tables button:nth-child(2)') ?? false"), True)
+    checks.fits("the focus after a table is chosen",
+                browser.value("document.activeElement?.matches('#tables button:nth-child(2)') ?? false"), True)
     tab_to(browser, "td button")
     browser.press("Enter")
     browser.until("at('transfer').open && at('transfer-messages').children.length")
-    times = browser.value("[...at('transfer-messages').querySelectorAll('summary')].map((line) => line.textContent.slice(0, 20))")
+    times = browser.value(
+        "[...at('transfer-messages').querySelectorAll('summary')].map((line) => line.textContent.slice(0, 20))")
     checks.fits("messages in the order of time", times, sorted(times))
     tab_to(browser, "#close")
     browser.press("Enter")
@@ -234,8 +262,8 @@ def by_keys(browser, checks):
 # ---- connections
 
 class Seen(http.server.BaseHTTPRequestHandler):
-    """A server that counts the connections on which it is sent a byte. For a frame or a form Chromium opens one before the page's policy
-    stops it, and sends nothing."""
+    """A server that counts the connections on which it is sent a byte. For a frame or a form Chromium opens one before
+    the page's policy stops it, and sends nothing."""
     count = 0
 
     def handle_one_request(self):
@@ -260,10 +288,12 @@ def by_connections(browser, checks):
 def by_storage(browser, checks):
     """After a report the browser holds nothing of the page, and the page opened anew shows nothing."""
     with_report(browser)
-    held = "(async () => [localStorage.length, sessionStorage.length, document.cookie, (await indexedDB.databases()).length, (await caches.keys()).length])()"
+    held = ("(async () => [localStorage.length, sessionStorage.length, document.cookie, (await "
+            "indexedDB.databases()).length, (await caches.keys()).length])()")
     checks.fits("what is stored", browser.value(held), [0, 0, "", 0, 0])
     opened(browser)
-    checks.fits("the page opened anew", browser.value("at('answers').hidden && at('bank').value === '' && at('messages').files.length === 0"), True)
+    checks.fits("the page opened anew", browser.value(
+        "at('answers').hidden && at('bank').value === '' && at('messages').files.length === 0"), True)
 
 
 def main():
@@ -279,11 +309,16 @@ def main():
         def in_folder(step):
             return lambda *both: step(*both, folder)
 
-        for step in (by_files, in_folder(by_wrong_files), in_folder(by_changed_files), by_messages, by_made_up, by_pieces, by_refusals,
-                     in_folder(shown.by_memory), in_folder(shown.by_full_memory), in_folder(shown.by_reading), in_folder(shown.by_rows),
-                     shown.by_typing, shown.by_remedies, shown.by_words, shown.by_roles, shown.by_looks, in_folder(shown.by_dropping),
-                     in_folder(clerk.by_spreadsheets), in_folder(clerk.by_several_files), in_folder(clerk.by_other_kinds),
-                     clerk.by_refused_lines, clerk.by_searches, clerk.by_transfer, in_folder(clerk.by_foreign_rows), clerk.by_meanings,
+        for step in (by_files, in_folder(by_wrong_files), in_folder(by_changed_files), by_messages,
+                     by_made_up, by_pieces, by_refusals,
+                     in_folder(shown.by_memory), in_folder(shown.by_full_memory),
+                     in_folder(shown.by_reading), in_folder(shown.by_rows),
+                     shown.by_typing, shown.by_remedies, shown.by_words, shown.by_roles,
+                     shown.by_looks, in_folder(shown.by_dropping),
+                     in_folder(clerk.by_spreadsheets), in_folder(clerk.by_several_files),
+                     in_folder(clerk.by_other_kinds),
+                     clerk.by_refused_lines, clerk.by_languages, clerk.by_foot, clerk.by_searches, clerk.by_transfer,
+                     in_folder(clerk.by_foreign_rows), clerk.by_meanings,
                      clerk.by_colors, by_keys, by_connections, by_storage):
             step(browser, checks)
             opened(browser)

@@ -51,7 +51,8 @@ def answered(browser: Any, *paths: Any) -> None:
 
 def reported(browser: Any, bank: Any, day: Any, path: Any) -> Any:
     """The report that the page saves, or its line about the fault."""
-    browser.value(f"at('bank').value = {json.dumps(bank)}; at('day').value = {json.dumps(day)}; document.body.dataset.done = ''")
+    browser.value(
+        f"at('bank').value = {json.dumps(bank)}; at('day').value = {json.dumps(day)}; document.body.dataset.done = ''")
     browser.give("#list", path)
     browser.value("at('compare').click()")
     browser.until("document.body.dataset.done === '1'")

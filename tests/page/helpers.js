@@ -15,8 +15,9 @@ async function many(names, inputs) {
   return answers;
 }
 
-// The report on a list, or the code and the place of its fault.
-const report_on = (bank, day, list) => ask("report", { bank, day, list: new File([as_bytes(list)], "list") }).then(() => kept_text("report"), ({ code, place }) => [code, place]);
+// The report on a list, or the code and the place of its fault, and of a list what is wrong with it.
+const fault_in = ({ code, place, faults = [] }) => [code, place, ...faults.map(({ name }) => name)];
+const report_on = (bank, day, list) => ask("report", { bank, day, list: new File([as_bytes(list)], "list") }).then(() => kept_text("report"), fault_in);
 
 // Starts the worker anew. It takes a file in pieces of so many bytes.
 async function start_with(piece) {
@@ -33,7 +34,7 @@ async function start_with(piece) {
 function watch_searches() {
   const post = worker.postMessage.bind(worker);
   window.searched = [];
-  worker.postMessage = (asked) => { if (asked.ask === "rows") searched.push(asked.search); post(asked); };
+  worker.postMessage = (asked) => { if (asked.ask === "known") searched.push(asked.search); post(asked); };
 }
 
 // Types a text into the field of the search, a letter at a time and without a pause.

@@ -1,8 +1,8 @@
 """shipped.py: the release has the page, with its sum in both lists, and there is no release without it.
 
-tools/package.py makes the release. The page in the archive and the one beside it are the one that web/build made, sha256sum finds the sums of both
-right, and the sum is the one that docs/users/page.md has a clerk compare. With a toolchain that web/build does not find, the package
-says so, and leaves nothing.
+tools/package.py makes the release. The page in the archive and the one beside it are the one that web/build made,
+sha256sum finds the sums of both right, and the sum is the one that docs/users/page.md has a clerk compare. With a
+toolchain that web/build does not find, the package says so, and leaves nothing.
 """
 import os
 import pathlib
@@ -41,7 +41,8 @@ def shipped(folder):
     whole = named == {"niluppang.html", archive.name, *packages, *wheels}
     yield reported("what the list names", len(packages) == 5 and len(wheels) == 1 and whole, str(named))
     lines = inside(archive, f"{package.NAME}/{package.SUMS}").decode().splitlines()
-    sums = [line.split("  ")[0] for line in [*lines, *(folder / package.SUMS).read_text().splitlines()] if line.endswith("niluppang.html")]
+    sums = [line.split("  ")[0] for line in [*lines, *(folder / package.SUMS).read_text().splitlines()]
+            if line.endswith("niluppang.html")]
     yield reported("one sum in both lists", len(sums) == 2 and sums[0] == sums[1], str(sums))
     (folder / "niluppang.html").write_bytes(html.replace(b"Niluppang", b"Niluppanq", 1))
     yield reported("a page that was changed", b"niluppang.html: FAILED" in summed(folder).text)

@@ -1,5 +1,5 @@
-"""shown.py: what the page shows, with little memory, while it reads, in long tables, while somebody types, in each language, to a screen
-reader and to the eye."""
+"""shown.py: what the page shows, with little memory, while it reads, in long tables, while somebody types, in each
+language, to a screen reader and to the eye."""
 import json
 import pathlib
 import re
@@ -9,21 +9,27 @@ from tests.harness import EXAMPLES
 from tests.page.driving import answered, saved, with_report
 
 LOOKS = [(1280, 1400, False), (1280, 1400, True), (420, 1500, False), (420, 1500, True)]
+OWN_COLORS = {("transfers", "REJECTED"): "wait"}  # of the page: a bank looks at what was rejected
 LITTLE = 400  # pages of 64 KiB: 25 MiB, of which the stack has 8 MiB
 LANGUAGES = ["en", "de", "fr"]
 KEPT = 10_000  # refused lines whose text the worker keeps
 # the parts of a page with a report, by their roles and names as a screen reader has them
-PARTS = [("main", ""), ("form", "Files"), ("region", "Answers"), ("navigation", "Tables"), ("search", ""), ("status", ""), ("alert", ""),
-         ("table", "Report"), ("columnheader", "Result"), ("heading", "Answers"), ("combobox", "Language"), ("searchbox", "Search"),
-         ("textbox", "Bank begins with"), ("button", "Read and compare"), ("button", "What the list lacks"), ("button", "Save report.csv")]
-NAMED = {"button", "textbox", "searchbox", "combobox", "progressbar", "table", "form", "region", "navigation", "dialog", "link", "columnheader"}
+PARTS = [("main", ""), ("form", "Files"), ("region", "Answers"), ("navigation", "Tables"), ("search", ""),
+         ("status", ""), ("alert", ""),
+         ("table", "Report"), ("columnheader", "Result"), ("heading", "Answers"),
+         ("combobox", "Language"), ("searchbox", "Search"),
+         ("textbox", "Bank begins with"), ("button", "Read and compare"), ("button", "What the list lacks"),
+         ("button", "Save report.csv")]
+NAMED = {"button", "textbox", "searchbox", "combobox", "progressbar", "table", "form", "region", "navigation", "dialog",
+         "link", "columnheader"}
 WIDER = "document.documentElement.scrollWidth - document.documentElement.clientWidth"
 
 
 # ---- memory
 
 def line_about(browser, path):
-    """What the page says when it is given a file that it cannot answer: the line on the fault, and whether it shows no answer and is ready."""
+    """What the page says when it is given a file that it cannot answer: the line on the fault, and whether it shows no
+    answer and is ready."""
     answered(browser, path)
     ready = "at('answers').hidden && at('progress').hidden && !at('compare').disabled && at('state').textContent === ''"
     return browser.value("at('fault').textContent"), browser.value(ready)
@@ -53,7 +59,8 @@ def by_memory(browser, checks, folder):
 
 
 def by_full_memory(browser, checks, folder):
-    """A question that needs more memory than the site has left, with a clear line. The site still answers smaller ones."""
+    """A question that needs more memory than the site has left, with a clear line. The site still answers smaller
+    ones."""
     path = pathlib.Path(folder, "some")
     path.write_text("".join(messages.lines(10_000)))
     browser.value("start_with(1 << 16)")
@@ -64,7 +71,8 @@ def by_full_memory(browser, checks, folder):
     browser.value(f"limit_memory({pages})")
     browser.value(give)
     browser.value("complain(() => ''); save('archive')")
-    checks.fits("an archive text without memory", browser.value("at('fault').textContent"), browser.value("WORDS.en.no_memory"))
+    checks.fits("an archive text without memory", browser.value("at('fault').textContent"),
+                browser.value("WORDS.en.no_memory"))
     bank, tx = status.decode().split("|")[1:3]
     rows = browser.value(f"ask('messages', {json.dumps({'bank': bank, 'transfer': tx})})")["rows"]
     checks.fits("texts after it", (len(rows) > 0, saved(browser, "status")), (True, status))
@@ -84,14 +92,15 @@ def by_reading(browser, checks, folder):
         browser.give("#messages", path)
     browser.until("document.body.dataset.done === '1'")
     shown = browser.value("at('state').textContent.split(':')[0]"), saved(browser, "status")
-    checks.fits("a file that is chosen while another is read", shown, (small.name, small.with_suffix(".status").read_bytes()))
+    checks.fits("a file that is chosen while another is read", shown,
+                (small.name, small.with_suffix(".status").read_bytes()))
 
 
 # ---- rows
 
 def by_rows(browser, checks, folder):
-    """The rows of long tables: their number, those at the end, those that are searched for, and those of a word. The text of the refused
-    lines is longer than what the worker reads at once."""
+    """The rows of long tables: their number, those at the end, those that are searched for, and those of a word. The
+    text of the refused lines is longer than what the worker reads at once."""
     many, path = 1_500_000, pathlib.Path(folder, "wrong")
     path.write_bytes(b"x\n" * many + b"{}\n" + (EXAMPLES / "bank-day.jsonl").read_bytes())
     answered(browser, path)
@@ -103,8 +112,10 @@ def by_rows(browser, checks, folder):
     def wrong(*numbers):
         return [[str(number), "31", "", "wrong", str(number), "x" if number <= KEPT else ""] for number in numbers]
 
-    checks.fits("the last of many rows", rows("refused", many - 2), {"rows": wrong(many - 1, many), "matched": many + 1})
-    checks.fits("the last rows whose text is kept, and the next", rows("refused", KEPT - 1)["rows"], wrong(KEPT, KEPT + 1))
+    checks.fits("the last of many rows", rows("refused", many - 2),
+                {"rows": wrong(many - 1, many), "matched": many + 1})
+    checks.fits("the last rows whose text is kept, and the next", rows("refused", KEPT - 1)["rows"],
+                wrong(KEPT, KEPT + 1))
     last = [str(many + 1), "33", "", "wrong", str(many + 1), ""]
     checks.fits("rows of a code", rows("refused", 0, words=["33"]), {"rows": [last], "matched": 1})
     checks.fits("rows of a search", rows("refused", 0, search=f"Line {many}:"), {"rows": wrong(many), "matched": 1})
@@ -132,7 +143,8 @@ def by_typing(browser, checks):
     checks.fits("searches while somebody types", browser.value(f"type_search('hansdehh'); {soon}"), 0)
     browser.until("searched.length")
     browser.value("new Promise((kept) => setTimeout(kept, 3 * PAUSE))")
-    lines = [line for line in (EXAMPLES / "bank-day.status").read_text().splitlines() if line.startswith("T|") and "HANSDEHH" in line]
+    lines = [line for line in (EXAMPLES / "bank-day.status").read_text().splitlines() if line.startswith("T|")
+             and "HANSDEHH" in line]
     shown = browser.value("[searched, at('rows').tBodies[0].rows.length]")
     checks.fits("searches after a pause", shown, [["hansdehh"], len(lines)])
 
@@ -145,11 +157,12 @@ def by_remedies(browser, checks):
         browser.value(f"turn('{table}')")
         for word in browser.value(f"Object.keys(found['{table}'].counts)"):
             browser.value(f"choose(['{word}'])")
-            browser.until(f"at('rows').querySelector('.{words[word]['color']}')?.textContent === '{word}'")
+            color = OWN_COLORS.get((table, word), words[word]["color"])
+            browser.until(f"at('rows').querySelector('.{color}')?.textContent === '{word}'")
             line = browser.value("at('remedy').hidden ? null : at('remedy').textContent")
             checks.fits(f"what to do about {word}", line, f"What to do about {word}: {words[word]['remedy']}")
             bar = browser.value("at('bars').querySelector('[aria-pressed=true] i').className")
-            checks.fits(f"the color of {word}", bar, words[word]["color"])
+            checks.fits(f"the color of {word}", bar, color)
     browser.value("choose([])")
     checks.fits("what to do about no word", browser.value("at('remedy').hidden"), True)
 
@@ -164,22 +177,26 @@ def by_words(browser, checks):
         return sorted(re.findall(r"\{\d\}", text))
 
     def form(language):
-        return {name: places(text) if isinstance(text, str) else {table: len(heads) for table, heads in text.items()}
+        return {name: places(text) if isinstance(text, str) else
+                {key: places(part) if isinstance(part, str) else len(part) for key, part in text.items()}
                 for name, text in words[language].items()}
 
     answered(browser, EXAMPLES / "bank-day.jsonl")
     for language in LANGUAGES:
         checks.fits(f"the words in {language}", form(language), form("en"))
         browser.value(f"at('language').value = '{language}'; at('language').dispatchEvent(new Event('change'))")
-        browser.until(f"document.documentElement.lang === '{language}' && at('caption').textContent === WORDS.{language}.transfers")
+        browser.until(f"document.documentElement.lang === '{language}' && at('caption').textContent === "
+                      f"WORDS.{language}.transfers")
         has_word = "(part) => part.textContent && part.textContent === words[part.dataset.word]"
         shown = browser.value(f"[...document.querySelectorAll('[data-word]')].every({has_word})")
         checks.fits(f"the words that the page shows in {language}", shown, True)
         browser.value("at('bank').value = 'x'; document.body.dataset.done = ''; at('compare').click()")
         browser.until("document.body.dataset.done === '1'")
-        checks.fits(f"a line on a fault in {language}", browser.value("at('fault').textContent"), words[language]["need_both"])
+        checks.fits(f"a line on a fault in {language}", browser.value("at('fault').textContent"),
+                    words[language]["need_both"])
     browser.value("at('language').value = 'de'; at('language').dispatchEvent(new Event('change'))")
-    checks.fits("a line on a fault in another language", browser.value("at('fault').textContent"), words["de"]["need_both"])
+    checks.fits("a line on a fault in another language", browser.value("at('fault').textContent"),
+                words["de"]["need_both"])
 
 
 def by_roles(browser, checks):
@@ -200,7 +217,8 @@ def by_roles(browser, checks):
 
 
 def by_looks(browser, checks):
-    """The page in two sizes, light and dark: nothing is wider than the page, and each text stands out from what is behind it."""
+    """The page in two sizes, light and dark: nothing is wider than the page, and each text stands out from what is
+    behind it."""
     with_report(browser)
     for table in ("report", "transfers", "totals"):
         browser.value(f"turn('{table}')")
@@ -238,7 +256,8 @@ def by_dropping(browser, checks, folder):
         path.write_bytes(b"".join(half))
     drop(halves[0], EXAMPLES / "bank-day.list", halves[1])
     texts = [saved(browser, name) for name in ("status", "report")]
-    checks.fits("files that were dropped at once", texts, [(EXAMPLES / f"bank-day.{name}").read_bytes() for name in ("status", "report")])
+    checks.fits("files that were dropped at once", texts,
+                [(EXAMPLES / f"bank-day.{name}").read_bytes() for name in ("status", "report")])
     checks.fits("the names of both", "morning, evening:" in browser.value("at('state').textContent"), True)
 
 
@@ -250,5 +269,6 @@ def pictures(browser, folder):
     answered(browser, EXAMPLES / "bank-day.jsonl")
     for width, height, is_dark in LOOKS:
         browser.look(width, height, is_dark)
-        browser.picture(pathlib.Path(folder, f"{'wide' if width > 600 else 'narrow'}-{'dark' if is_dark else 'light'}.png"))
+        browser.picture(pathlib.Path(folder,
+                                     f"{'wide' if width > 600 else 'narrow'}-{'dark' if is_dark else 'light'}.png"))
     browser.look()

@@ -1,9 +1,10 @@
 """groups.py: made-up groups of sites, and what settling must make of them by the definitions.
 
-Each of 300 groups has up to 5 sites. They take messages and then hold beginnings of the entries of other sites, also of sites that are
-not there. Two of three groups have a fault: a fork, in which two sites hold different messages under one number; entries ahead of the
-site that they come from; two sites of one number; sites of two groups. tests/oracle/replay.py has sites as sets of entries: whole sets
-are handed to the first site and then from it to each. `judged` then asks, by the sets alone, whether settling may end so.
+Each of 300 groups has up to 5 sites. They take messages and then hold beginnings of the entries of other sites, also of
+sites that are not there. Two of three groups have a fault: a fork, in which two sites hold different messages under one
+number; entries ahead of the site that they come from; two sites of one number; sites of two groups.
+tests/oracle/replay.py has sites as sets of entries: whole sets are handed to the first site and then from it to each.
+`judged` then asks, by the sets alone, whether settling may end so.
 """
 from itertools import groupby
 from tests.oracle.replay import counted, place, refusal

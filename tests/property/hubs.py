@@ -1,16 +1,18 @@
-"""hubs.py: made-up hubs, whose sites give each other deltas by files, and what their commands must answer by the definitions.
+"""hubs.py: made-up hubs, whose sites give each other deltas by files, and what their commands must answer by the
+definitions.
 
 Usage: python3 -m tests.property.hubs [--seed N] [--cases N]   (default: the number of today, as 20261127, and 300)
 
-A hub has 2 to 5 sites. Their journals grow, with blank lines, refused lines, repeats, messages of other sites and lines that break off.
-A site asks with its vector, as it is, as it was or as it never was. What another one cuts for it is lost, comes late, twice or in another
-form, or is cut short or damaged. Each command is compared with tests/oracle/exchange.py: the two outputs to the byte, and the status.
-No delta is refused with 42, 43 or 44, and sites with equal vectors print equal archive texts. At the end the sites give each other all
-that is lacking. Then all print one archive text, which has the messages of all journals.
+A hub has 2 to 5 sites. Their journals grow, with blank lines, refused lines, repeats, messages of other sites and lines
+that break off. A site asks with its vector, as it is, as it was or as it never was. What another one cuts for it is
+lost, comes late, twice or in another form, or is cut short or damaged. Each command is compared with
+tests/oracle/exchange.py: the two outputs to the byte, and the status. No delta is refused with 42, 43 or 44, and sites
+with equal vectors print equal archive texts. At the end the sites give each other all that is lacking. Then all print
+one archive text, which has the messages of all journals.
 
-One hub of five is not honest: a journal loses or changes lines, a delta is damaged so that it still is one, or a site has another group.
-There only the answers are compared. What has to be met in 300 hubs and was not counts as failed. The seed is printed: with it all is the
-same again.
+One hub of five is not honest: a journal loses or changes lines, a delta is damaged so that it still is one, or a site
+has another group. There only the answers are compared. What has to be met in 300 hubs and was not counts as failed. The
+seed is printed: with it all is the same again.
 """
 import argparse
 import collections
@@ -29,7 +31,8 @@ from tests.property.messages import Pool, shuffled
 CASES, STEPS, ENOUGH = 300, range(8, 33), 300
 REFUSED_LINES = [b"", b" \t\r", b"{}", b"foo", b"[]", b'{"MsgNmId":"pacs.008"}', b"\xff"]
 NO_VECTORS = ["", "1", "1:", "2:1,1:1", "1:1,1:1", "0:1", "1:01", "1:1,", "1025:1"]
-TO_MEET = ["41", "42", "43", "44", "45", "a refused line", "fault 62", "fault 64", "two rounds", "three rounds", "an empty vector",
+TO_MEET = ["41", "42", "43", "44", "45", "a refused line", "fault 62", "fault 64", "two rounds",
+           "three rounds", "an empty vector",
            "a delta twice", "a late delta", "form 1", "equal vectors", "equal bytes", "a message of two sites"]
 
 Answer = collections.namedtuple("Answer", "text status")
@@ -104,7 +107,8 @@ class Hub:
         self.at(site, "vector")
 
     def vector(self, site):
-        """A vector that a site may ask with: what it has, what it once asked with, what it would have if all had come, or anything."""
+        """A vector that a site may ask with: what it has, what it once asked with, what it would have if all had come,
+        or anything."""
         r, draw = self.r, self.r.random()
         if draw < 0.4:
             self.asked[site] = self.at(site, "vector").strip()
@@ -132,7 +136,8 @@ class Hub:
                 self.given[taker].remove(name)
 
     def stream(self):
-        """A site sends another one what is new again and again, without being asked. The deltas come in any order, and not all."""
+        """A site sends another one what is new again and again, without being asked. The deltas come in any order, and
+        not all."""
         r = self.r
         giver, taker = r.sample(self.numbers(), 2)
         have, names = "-", []
@@ -156,7 +161,8 @@ class Hub:
         """A text with a wrong byte, or without some bytes or lines. In an honest hub it is no delta text."""
         r, lines = self.r, text.split(b"\n")
         place, line = r.randrange(len(text)), r.randrange(len(lines))
-        wrong = r.choice([text[:place], text[:place] + r.choice([b"0", b"1", b"9", b" ", b"\n", b"\xff"]) + text[place + 1:],
+        wrong = r.choice([text[:place],
+                          text[:place] + r.choice([b"0", b"1", b"9", b" ", b"\n", b"\xff"]) + text[place + 1:],
                           b"\n".join(lines[:line] + lines[line + 1:]), b"\n".join(lines[:line + 1] + lines[line:])])
         return text[:-1] if self.honest and is_delta(wrong) else wrong
 
@@ -195,12 +201,14 @@ class Hub:
         r, site = self.r, self.r.choice(self.numbers())
         journal = self.journal(site).name
         self.run(*r.choice([
-            ("site", 0, self.sites, journal), ("vector", self.sites + 1, self.sites, journal), ("site", site, 1025, journal),
+            ("site", 0, self.sites, journal), ("vector", self.sites + 1, self.sites, journal),
+            ("site", site, 1025, journal),
             ("cut", site, self.sites, r.choice(NO_VECTORS), journal), ("site", site, self.sites, journal, "nowhere"),
             ("cut", site, self.sites, "-", "nowhere")]))
 
     def spoil(self):
-        """What no honest hub has: a journal loses or changes a line, and the site is sent all that another one has; or a smaller group."""
+        """What no honest hub has: a journal loses or changes a line, and the site is sent all that another one has; or
+        a smaller group."""
         r, draw = self.r, self.r.random()
         giver, site = r.sample(self.numbers(), 2)
         if draw < 0.3:
@@ -224,7 +232,8 @@ class Hub:
             self.settle()
 
     def settle(self):
-        """Each site is sent what it lacks: the first one by each other one, and then each by the first one. All must agree."""
+        """Each site is sent what it lacks: the first one by each other one, and then each by the first one. All must
+        agree."""
         for giver, taker in [(site, 1) for site in self.numbers()[1:]] + [(1, site) for site in self.numbers()[1:]]:
             text = self.at(giver, "cut", self.at(taker, "vector").strip())
             self.given[taker].append(self.file(text.encode()))

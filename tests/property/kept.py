@@ -1,10 +1,12 @@
 """kept.py: `keep` and `closed` print of made-up sets what the definitions say, and no status of a transfer changes.
 
-Of 2,000 sets both texts must be those of tests/oracle/keep.py, with the refused lines and the exit status. The lines of the status text of
-what is kept and of what is closed, merged in the order of transfers, must be the status text of the whole set.
+Of 2,000 sets both texts must be those of tests/oracle/keep.py, with the refused lines and the exit status. The lines of
+the status text of what is kept and of what is closed, merged in the order of transfers, must be the status text of the
+whole set.
 
-A set has some transfers that are mostly settled, with their recalls and answers. Some recalls are of several of these transfers. Other
-messages confirm, recall, return and contradict at random. Most messages are from before the day, and some are from the day or after it.
+A set has some transfers that are mostly settled, with their recalls and answers. Some recalls are of several of these
+transfers. Other messages confirm, recall, return and contradict at random. Most messages are from before the day, and
+some are from the day or after it.
 """
 import collections
 import json
@@ -19,7 +21,8 @@ from tests.property.messages import shuffled, written_out
 
 MANY = 2000
 DAYS = ["2024-05-02", "2024-05-03", "2024-05-04"]
-STAMPS = ["2024-05-01T23:30:00-05:00", "2024-05-01", "2024-05", "2024-05-02T10:00:00Z", "2024-05-02T23:59:59", "2024-05-03T00:00:00+02:00",
+STAMPS = ["2024-05-01T23:30:00-05:00", "2024-05-01", "2024-05", "2024-05-02T10:00:00Z",
+          "2024-05-02T23:59:59", "2024-05-03T00:00:00+02:00",
           "2024-05-03", "2024-05-04T09:00:00.000Z", "2024-12-01T00:00:00Z", "20240501", "tomorrow"]
 SETTLED = "2024-05-01T10:00:00Z"
 REASON = {"TxSts": "RJCT", "Rsn": "AC04"}
@@ -38,10 +41,12 @@ NOTHING_KEPT, NOTHING_CLOSED, BOTH = "nothing is kept", "nothing is closed", "so
 REFUSED = "a refused line"
 FINAL = ["closed " + word for word in sorted(keep.FINAL)]
 ANSWERED = ["closed, with a recall that is " + word for word in sorted(keep.ANSWERED)]
-TO_MEET = [STATUS, RECALL, DATE, TIE, CHAIN, SAME_DAY, CONTRADICTED, SEVERAL_KEPT, SEVERAL_CLOSED, NOTHING_KEPT, NOTHING_CLOSED, BOTH,
+TO_MEET = [STATUS, RECALL, DATE, TIE, CHAIN, SAME_DAY, CONTRADICTED, SEVERAL_KEPT, SEVERAL_CLOSED,
+           NOTHING_KEPT, NOTHING_CLOSED, BOTH,
            REFUSED, *FINAL, *ANSWERED]
 
-# a set: a name, the day, the lines, and what must be printed of it: that of `keep`, that of `closed`, and the status text
+# a set: a name, the day, the lines, and what must be printed of it: that of `keep`, that of `closed`, and the status
+# text
 Made = collections.namedtuple("Made", "name day data kept closed status")
 
 
@@ -84,7 +89,8 @@ def settled(pool, transfer):
     r = pool.r
     yield samples.instruction(**pool.own(), TxId=transfer, InstgAgt=pool.banks[0], DbtrAgt=pool.banks[0])
     if r.random() < 0.95:
-        yield samples.confirmation(r.choice([samples.ACCEPTED, samples.ACCEPTED, REASON]), **pool.own(), **about(pool, transfer))
+        yield samples.confirmation(r.choice([samples.ACCEPTED, samples.ACCEPTED, REASON]), **pool.own(),
+                                   **about(pool, transfer))
     if r.random() < 0.3:
         yield samples.recall([samples.transaction(**about(pool, transfer))], **pool.own())
         if r.random() < 0.9:
@@ -94,7 +100,8 @@ def settled(pool, transfer):
 def of_several(pool, recall):
     """A recall of several transfers, and the answers to it, of which one may be missing."""
     chosen = pool.r.sample(pool.transfers, min(len(pool.transfers), pool.r.randint(2, 3)))
-    yield samples.recall([samples.transaction(CxlId=recall, **about(pool, transfer)) for transfer in chosen], **pool.own())
+    yield samples.recall([samples.transaction(CxlId=recall, **about(pool, transfer)) for transfer in chosen],
+                         **pool.own())
     for transfer in chosen[pool.r.random() < 0.2:]:
         yield answered(pool, transfer, recall)
 
@@ -113,7 +120,8 @@ def made_up_set(r):
         found += of_several(pool, f"B{number}")
     found += [pool.message() for _ in range(r.choice([0, 0, 0, 1, 2, 8]))]
     found += [elsewhere(pool, r.choice(found)) for _ in range(r.choice([0, 0, 0, 1]))]
-    lines = [shuffled(r, message) for message in found + r.sample(found, len(found) // 5)] + r.sample(REFUSED_LINES, r.choice([0, 0, 2]))
+    lines = [shuffled(r, message) for message in found
+             + r.sample(found, len(found) // 5)] + r.sample(REFUSED_LINES, r.choice([0, 0, 2]))
     r.shuffle(lines)
     return b"\n".join(lines)
 
@@ -147,7 +155,8 @@ def met_by(day, held, kept, refused):
         yield from met_by_transfer(transfer, said, against, day, kept, open_messages)
     yield from [SAME_DAY] * any(keep.date(message) == day for message in held)
     yield from [CONTRADICTED] * bool(against)
-    yield from (SEVERAL_KEPT if message in kept else SEVERAL_CLOSED for message in held if len(status.transfers(message)) > 1)
+    yield from (SEVERAL_KEPT if message in kept else SEVERAL_CLOSED for message in held
+                if len(status.transfers(message)) > 1)
     yield BOTH if kept and held - kept else NOTHING_CLOSED if kept else NOTHING_KEPT
     yield from [REFUSED] * bool(refused)
 
@@ -178,11 +187,13 @@ def is_right(program, made):
     """Whether the program prints what it must of a set. If not, all of it is printed."""
     kept, closed = (harness.run([program, word, made.day], made.data) for word in keep.PARTS)
     whole, *parts = (harness.run([program, "status"], data) for data in (made.data, kept.text, closed.text))
-    is_merged = merged(*(part.text for part in parts)) == whole.text and all((part.errors, part.status) == (b"", 0) for part in parts)
+    is_merged = merged(*(part.text for part in parts)) == whole.text and all((part.errors, part.status) == (b"", 0)
+                                                                             for part in parts)
     right = (kept, closed, whole) == (made.kept, made.closed, made.status) and is_merged
     if not right:
-        print(f"{made.name}: DIFFERS\n day {made.day}\n lines {json.dumps(made.data.decode())}\n kept {kept}\n closed {closed}\n"
-              f" wanted {made.kept}\n and {made.closed}\n statuses of the whole {whole.text!r}\n and of both {parts}", flush=True)
+        print(f"{made.name}: DIFFERS\n day {made.day}\n lines {json.dumps(made.data.decode())}\n kept {kept}\n "
+              f"closed {closed}\n wanted {made.kept}\n and {made.closed}\n statuses of the whole "
+              f"{whole.text!r}\n and of both {parts}", flush=True)
     return right
 
 

@@ -1,14 +1,17 @@
-"""made_up.py: the test driver answers made-up inputs as the definitions say.
+"""made_up.py: the program and the test driver answer made-up inputs as the definitions say.
 
-The inputs are sets of messages in batches (views.py), worlds (worlds.py), and groups of sites that are settled (groups.py).
-Independent programs of the definitions have the right answers (tests/oracle/). Of each kind the check prints what was met. What has
-to be met and was not counts as failed. cases.py has the options.
+The inputs are sets of messages in batches (views.py) and groups of sites that are settled (groups.py), for the driver,
+and worlds (worlds.py), for the command `replay`. Independent programs of the definitions have the right answers
+(tests/oracle/). Of each kind the check prints what was met. What has to be met and was not counts as failed. cases.py
+has the options.
 """
 from tests import harness
 from tests.property import cases, groups, views, worlds
-from tests.property.tries import answered
+from tests.property.tries import answered, answered_alone
 
-KINDS = {"views": views, "worlds": worlds, "groups": groups}
+# each kind with who answers it, by which word
+KINDS = {"views": (views, answered, "views"), "worlds": (worlds, answered_alone, "replay"),
+         "groups": (groups, answered, "groups")}
 
 
 def tries_of(word, kind, asked):
@@ -22,17 +25,17 @@ def tries_of(word, kind, asked):
     return tries, met
 
 
-def tried(driver, word, kind, asked):
+def tried(name, kind, answer, word, asked):
     """How many tries of a kind passed, and how many failed. What has to be met and was not has failed."""
-    tries, met = tries_of(word, kind, asked)
-    print(f"{len(tries)} {word}: " + ", ".join(f"{thing} {times}" for thing, times in met.items()), flush=True)
-    right = answered(driver, word, tries)
+    tries, met = tries_of(name, kind, asked)
+    print(f"{len(tries)} {name}: " + ", ".join(f"{thing} {times}" for thing, times in met.items()), flush=True)
+    right = answer(word, tries)
     return right, len(tries) - right + asked.missed(kind.MANY, met)
 
 
 def main():
-    asked, driver = cases.asked(__doc__), harness.program("sct_test_driver")
-    harness.end_with([tried(driver, word, kind, asked) for word, kind in KINDS.items()])
+    asked = cases.asked(__doc__)
+    harness.end_with([tried(name, *how, asked) for name, how in KINDS.items()])
 
 
 if __name__ == "__main__":

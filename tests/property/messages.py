@@ -1,7 +1,8 @@
 """messages.py: made-up messages that meet one another.
 
-A few banks, transfers, recalls and identifications are in each pool, so that messages confirm, recall, return and contradict
-one another. Half of the recalls have a list of 1 to 5 transactions, which may be on one transfer or on several.
+A few banks, transfers, recalls and identifications are in each pool, so that messages confirm, recall, return and
+contradict one another. Half of the recalls have a list of 1 to 5 transactions, which may be on one transfer or on
+several.
 """
 import json
 from bench.generate import samples
@@ -34,7 +35,8 @@ class Pool:
         return self.banks[0] if self.r.random() < 0.9 else self.r.choice(self.banks)
 
     def head(self, kind, letter):
-        return {"MsgNmId": kind, "MsgId": f"{letter}{self.r.randint(1, self.numbers)}", "CreDtTm": "2024-05-02T10:00:00Z",
+        return {"MsgNmId": kind, "MsgId": f"{letter}{self.r.randint(1, self.numbers)}",
+                "CreDtTm": "2024-05-02T10:00:00Z",
                 "InstgAgt": self.r.choice(self.banks)}
 
     def original(self, about="pacs.008"):
@@ -51,7 +53,8 @@ class Pool:
         self.instructed.append(self.r.choice(waiting if waiting and self.r.random() < 0.9 else self.transfers))
         bank = self.debtor_bank()
         return samples.instruction(
-            **self.head("pacs.008", "M"), TxId=self.instructed[-1], IntrBkSttlmAmt=self.r.choice(self.amounts), DbtrAgt=bank,
+            **self.head("pacs.008", "M"), TxId=self.instructed[-1],
+            IntrBkSttlmAmt=self.r.choice(self.amounts), DbtrAgt=bank,
             CdtrAgt=self.r.choice(self.banks), CdtrAcct=self.r.choice(CREDITOR_ACCOUNTS))
 
     def confirmation(self):
@@ -67,7 +70,8 @@ class Pool:
     def transaction(self):
         """One transaction of a recall."""
         more = self.r.choice([{}, {}, {"OrgnlEndToEndId": "E1"}, {"OrgnlIntrBkSttlmDt": "2024-05-02"}])
-        return {**self.original(), "CxlId": self.r.choice(self.recalls), "OrgnlIntrBkSttlmAmt": self.r.choice(self.amounts),
+        return {**self.original(), "CxlId": self.r.choice(self.recalls),
+                "OrgnlIntrBkSttlmAmt": self.r.choice(self.amounts),
                 "Ccy": "EUR", "Rsn": self.r.choice(["FRAD", "DUPL"]), **more}
 
     def transactions(self):
@@ -92,12 +96,15 @@ class Pool:
     def payback(self):
         original = self.r.choice(self.amounts)
         returned = self.r.choice(AMOUNTS[:AMOUNTS.index(original) + 1])
-        return {**self.later("pacs.004", "P"), "RtrId": f"X{self.r.randint(1, 3)}", "OrgnlCxlId": self.r.choice(self.recalls),
-                "OrgnlIntrBkSttlmAmt": original, "RtrdIntrBkSttlmAmt": returned, "Ccy": "EUR", "IntrBkSttlmDt": "2024-05-04",
+        return {**self.later("pacs.004", "P"), "RtrId": f"X{self.r.randint(1, 3)}",
+                "OrgnlCxlId": self.r.choice(self.recalls),
+                "OrgnlIntrBkSttlmAmt": original, "RtrdIntrBkSttlmAmt": returned, "Ccy": "EUR",
+                "IntrBkSttlmDt": "2024-05-04",
                 "Rsn": "FOCR"}
 
     def refusal(self):
-        return {**self.later("camt.029", "N"), "CxlStsId": "S1", "OrgnlCxlId": self.r.choice(self.recalls), "Conf": "RJCR",
+        return {**self.later("camt.029", "N"), "CxlStsId": "S1",
+                "OrgnlCxlId": self.r.choice(self.recalls), "Conf": "RJCR",
                 "Rsn": self.r.choice(["CUST", "LEGL"])}
 
     def message(self):

@@ -1,9 +1,11 @@
-"""serve_streams.py: made-up streams of requests get the replies that the definitions say, and leave the journal that they say.
+"""serve_streams.py: made-up streams of requests get the replies that the definitions say, and leave the journal that
+they say.
 
-Each of 200 streams goes to one site of a small group, in writes that are cut anywhere. There are messages that confirm, recall and
-contradict each other, in any form, refused lines and lists, blank lines, repeats, deltas of peers, of the site itself and of nobody, and
-all questions, also wrong ones. After a stream the site starts again on its journal, and gets another stream. tests/oracle/serve.py has
-each reply to the byte, but for `? changes`, which tests/embed/model.py judges, and the bytes of the journal.
+Each of 200 streams goes to one site of a small group, in writes that are cut anywhere. There are messages that confirm,
+recall and contradict each other, in any form, refused lines and lists, blank lines, repeats, deltas of peers, of the
+site itself and of nobody, and all questions, also wrong ones. After a stream the site starts again on its journal, and
+gets another stream. tests/oracle/serve.py has each reply to the byte, but for `? changes`, which tests/embed/model.py
+judges, and the bytes of the journal.
 """
 import collections
 import concurrent.futures
@@ -25,12 +27,16 @@ from tests.serve.streams import Requests
 MANY, LIVES, MOST_REQUESTS = 200, 3, 80
 DAYS = ["2024-05-02", "2024-05-03", "2024-5-2"]
 BANKS_ASKED, TRANSFERS_ASKED = [*BANKS, "NOBODYXX", "bankdeff"], ["T1", "T2", "T9", "T 1", "/T"]
-SHARES = {"message": 40, "repeat": 6, "refused_line": 5, "refused_recall": 2, "blank": 3, "delta": 8, "any_delta": 6, "damaged": 2,
-          "question": 8, "one_question": 8, "report": 3, "changes": 4, "wrong_question": 3}
+SHARES = {"message": 40, "repeat": 6, "refused_line": 5, "refused_recall": 2, "blank": 3,
+          "delta": 8, "any_delta": 6, "damaged": 2,
+          "question": 8, "one_question": 8, "entries": 6, "digest": 6, "digests": 4,
+          "report": 3, "changes": 4, "wrong_question": 3}
 QUESTIONS = [name.decode() for name in serve.CALLS]
 TO_MEET = ["TAKEN", "REPEAT", "blank", "ACCEPTED 0", "ACCEPTED", "form 1", *(f"REFUSED {number}" for number in [
-    31, 32, 33, 34, 35, 36, 37, 38, 41, 42, 43, 44, 45, 46, 48, 56, 64, 72, "73 1", "73 2"]), *(f"? {name}" for name in QUESTIONS),
-    "changes after changes"]
+    31, 32, 33, 34, 35, 36, 37, 38, 41, 42, 43, 44, 45, 46, 48, 56, 64, 72, "73 1", "73 2", "73 3"]),
+           *(f"? {name}" for name in QUESTIONS),
+           "changes after changes", "no entries", "an entry without room", "some entries", "all entries",
+           "a digest of none", "a digest of some", "a digest of all"]
 
 
 class Stream(Requests):
@@ -68,16 +74,34 @@ class Stream(Requests):
     def damaged(self):
         line = self.any_delta() if self.r.random() < 0.5 else self.delta()
         place = self.r.randrange(6, len(line))
-        return line[:place] + self.r.choice([b"", b"0", b"1", b"\t", b"\r", b"\xff"]) + line[place + self.r.choice([0, 1]):]
+        return line[:place] + self.r.choice([b"", b"0", b"1", b"\t", b"\r",
+                                             b"\xff"]) + line[place + self.r.choice([0, 1]):]
 
     def one_question(self):
         r = self.r
         bank, transfer = r.choice(BANKS_ASKED), r.choice([*self.pool.transfers, *TRANSFERS_ASKED])
         return r.choice([f"? transfer {bank} {transfer}", f"? messages {bank} {transfer}", f"? bank {bank}"]).encode()
 
+    def entries(self):
+        """Entries of some origin above some count, in room for none of them, for some or for all."""
+        r = self.r
+        most = r.choice([1, r.randint(1, 5000), r.randint(1, 5000), 10 ** 6, 67_108_863, 0, 67_108_864])
+        return b"? entries %d %d %d" % (r.choice([self.own, r.randint(0, self.group + 1)]),
+                                        r.choice([0, 0, 1, 2, r.randint(0, 20)]), most)
+
+    def digest(self):
+        """A digest of some origin at some count, which the site may not hold."""
+        r = self.r
+        return b"? digest %d %d" % (r.choice([self.own, r.randint(0, self.group + 1)]),
+                                    r.choice([0, 1, 2, r.randint(0, 20)]))
+
+    def digests(self):
+        return b"? digests"
+
     def report(self):
         r = self.r
-        rows = [[r.choice(BANKS), r.choice(self.pool.transfers), r.choice([*self.pool.amounts, "7"]), r.choice(model.WORDS)]
+        rows = [[r.choice(BANKS), r.choice(self.pool.transfers),
+                 r.choice([*self.pool.amounts, "7"]), r.choice(model.WORDS)]
                 for _ in range(r.randint(0, 5))]
         if rows and r.random() < 0.2:
             r.choice(rows)[r.randrange(4)] = r.choice(["", "x"])
@@ -87,6 +111,24 @@ class Stream(Requests):
 
     def changes(self):
         return b"? changes"
+
+
+def room_of(line, wanted, site):
+    """What a question for entries meets that has numbers for words, by the text that it must have."""
+    origin, above, room = map(int, line.split(b" ")[2:])
+    text = wanted.partition(b"\n")[2][:-1]
+    runs = exchange.delta_in(text)
+    if not runs:
+        return "no entries"
+    if len(text) > room:
+        return "an entry without room"
+    return "all entries" if site.have(origin) == above + len(runs[0].messages) else "some entries"
+
+
+def part_of(line, site):
+    """Of which part of an origin's entries a question asks the digest."""
+    origin, count = map(int, line.split(b" ")[2:])
+    return "a digest of none" if count == 0 else "a digest of all" if count == site.have(origin) else "a digest of some"
 
 
 class Differs(Exception):
@@ -105,7 +147,8 @@ def kind_of(line, reply):
 
 
 def is_right(line, wanted, found, before, now):
-    """Whether a reply is right, to the byte. Changes are those between what was held when they were asked for before, and now."""
+    """Whether a reply is right, to the byte. Changes are those between what was held when they were asked for before,
+    and now."""
     if line != b"? changes":
         return found == wanted
     head, _, text = found.partition(b"\n")
@@ -126,8 +169,10 @@ def life(r, program, path, stream, site, met):
             process.step(0.1, r.randint(1, most))
         answer = process.end()
     replies, rest = replies_in(answer.text)
-    if (replies[:1], rest, answer.errors, answer.status, len(replies)) != ([serving.ready()], b"", b"", 0, len(requests) + 1):
-        raise Differs(f"{len(requests)} requests, {len(replies)} replies, {replies[:1]}, {rest!r}, {answer.errors}, {answer.status}")
+    if (replies[:1], rest, answer.errors, answer.status, len(replies)) != ([serving.ready()], b"", b"", 0,
+                                                                           len(requests) + 1):
+        raise Differs(f"{len(requests)} requests, {len(replies)} replies, {replies[:1]}, {rest!r}, {answer.errors}, "
+                      f"{answer.status}")
     for line, found in zip(requests, replies[1:]):
         before = serving.handle.watched
         wanted, brings = serving.reply(line)
@@ -135,6 +180,10 @@ def life(r, program, path, stream, site, met):
             raise Differs(f"{line!r}\n wanted {wanted!r}\n found {found!r}")
         lines += [line] if brings else []
         met[kind_of(line, wanted)] += 1
+        if line.startswith(b"? entries ") and wanted.startswith(b"TEXT"):
+            met[room_of(line, wanted, serving.site)] += 1
+        if line.startswith(b"? digest ") and wanted.startswith(b"TEXT"):
+            met[part_of(line, serving.site)] += 1
         met["form 1"] += line.startswith(b"delta 1") and wanted.startswith(b"ACCEPTED")
         met["changes after changes"] += line == b"? changes" and before is not None and wanted != b"TEXT 0\n\n"
     if path.read_bytes() != serve.gated(lines):

@@ -1,14 +1,16 @@
 """views.py: made-up sets of messages that are applied to views, and what these must answer by the definitions.
 
-Each of 300 sets is cut into batches in three ways: one batch, one message a batch, and at random. Messages confirm, recall, return
-and contradict one another, also after they were counted. Recalls may have a list. Some come again in the other form, and some with
-a changed list under the same identification. Every fiftieth set ends with two recalls of 100 transactions. The driver must print of
-each batch how many messages are fresh and how many transfers they touch. At the end, and after each batch of the random cut, both
-texts must be those of tests/oracle/status.py. At the end they must be those of the view built in one batch.
+Each of 300 sets is cut into batches in three ways: one batch, one message a batch, and at random. Messages confirm,
+recall, return and contradict one another, also after they were counted. Recalls may have a list. Some come again in the
+other form, and some with a changed list under the same identification. Every fiftieth set ends with two recalls of 100
+transactions. The driver must print of each batch how many messages are fresh and how many transfers they touch. At the
+end, and after each batch of the random cut, both texts must be those of tests/oracle/status.py. At the end they must be
+those of the view built in one batch.
 """
 import json
 from tests.oracle.status import (
-    by_transfer, contradicted, identity, read_message, recall_key, standing, status_text, totals_text, transactions_of, transfers)
+    by_transfer, contradicted, identity, read_message, recall_key, standing, status_text, totals_text, transactions_of,
+    transfers)
 from tests.property.messages import Pool, in_other_form, parts, written_out
 from tests.property.tries import Try
 
@@ -25,11 +27,14 @@ OTHER_ANSWER = "an answer to a recall that is made of another transfer in the sa
 LATE = "a recall contradicted late, on transfers that the later message does not name"
 MOST = "200 transfers touched by one message"
 MOST_OF_ONE = "a recall of one transfer 100 times"
-FINDINGS = ["Identity", "TwoInstructions", "BothConfirmed", "ReasonsDiffer", "AmountDiffers", "RecallsDiffer", "BothAnswers",
+FINDINGS = ["Identity", "TwoInstructions", "BothConfirmed", "ReasonsDiffer", "AmountDiffers",
+            "RecallsDiffer", "BothAnswers",
             "RefusalsDiffer", "TwoReturns", "ReturnOfRejected"]
-STATUSES = ["T " + word for word in ["CONTRADICTED", "MISSING", "REJECTED", "RETURNED", "ACCEPTED", "INVESTIGATED", "PENDING"]]
+STATUSES = ["T " + word for word in ["CONTRADICTED", "MISSING", "REJECTED", "RETURNED", "ACCEPTED", "INVESTIGATED",
+                                     "PENDING"]]
 RECALL_STATUSES = ["R " + word for word in ["CONTRADICTED", "UNASKED", "RETURNED", "REFUSED", "CHASED", "OPEN"]]
-TO_MEET = [TAKEN_BACK, SEVERAL, TWICE, ONE_LISTED, BOTH_FORMS, OTHER_ORDER, FRONT, ONE_CONTRADICTED, OTHER_ANSWER, LATE, MOST,
+TO_MEET = [TAKEN_BACK, SEVERAL, TWICE, ONE_LISTED, BOTH_FORMS, OTHER_ORDER, FRONT,
+           ONE_CONTRADICTED, OTHER_ANSWER, LATE, MOST,
            MOST_OF_ONE, *FINDINGS, *STATUSES, *RECALL_STATUSES]
 
 
@@ -95,7 +100,8 @@ def standings(messages):
 
 def sent(messages):
     """The transfers that count as sent."""
-    return {t for t, (status, _, _) in standings(messages).items() if status.partition("|")[0] in ("ACCEPTED", "RETURNED")}
+    return {t for t, (status, _, _) in standings(messages).items()
+            if status.partition("|")[0] in ("ACCEPTED", "RETURNED")}
 
 
 def trial(batches, often):

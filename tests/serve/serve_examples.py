@@ -1,9 +1,12 @@
-"""serve_examples.py: `serve` does what its page says of seven short lives, and what examples/serve says of two, byte for byte.
+"""serve_examples.py: `serve` does what its page says of nine short lives, and what examples/serve says of two, byte for
+byte.
 
-The messages of the seven are an instruction of one euro and its confirmation. What has to come is written here by hand. A file that a
-crash leaves between its two syncs is made by hand too. In examples/serve the lives of a morning and of an evening are on one journal.
-NAME.requests is standard input, NAME.replies what must be written, and `journal` the file after both.
+The messages of the nine are an instruction of one euro and its confirmation. What has to come is written here by hand.
+A file that a crash leaves between its two syncs is made by hand too. In examples/serve the lives of a morning and of an
+evening are on one journal. NAME.requests is standard input, NAME.replies what must be written, and `journal` the file
+after both.
 """
+import hashlib
 import pathlib
 import tempfile
 from tests import harness
@@ -18,6 +21,34 @@ HEAD = b" site 1 2\n"
 WHOLE = HEAD + b" " + A8 + b"\n " + A2 + b"\n\t"
 CUT = b"delta 2\norigin 1 1 2\n" + WRITTEN + b"end 2\n"
 CUT_LINE = CUT[:-1].replace(b"\n", b"\t")
+FIRST = b"delta 2\norigin 1 1 1\n" + TRANSFER_WRITTEN.encode() + b"end 1\n"
+SECOND = b"delta 2\norigin 1 2 1\n" + REPORT_WRITTEN.encode() + b"end 1\n"
+NONE = b"delta 2\nend 0\n"
+# the words of questions for entries of one origin at a site of two that took two messages, each with the text that it
+# has
+ENTRIES = {b"1 0 1000000": CUT, b"1 0 67108863": CUT, b"1 0 %d" % len(CUT): CUT,
+           b"1 0 %d" % (len(CUT) - 1): FIRST, b"1 0 1": FIRST,
+           b"1 1 1000000": SECOND, b"1 1 1": SECOND, b"1 2 100": NONE, b"1 18446744073709551615 100": NONE,
+           b"2 0 100": NONE, b"9 0 100": NONE,
+           b"1024 0 100": NONE}
+# the same of those that are refused, each with the number and the place
+NO_ENTRIES = {b"1 x 100": b"73 2", b"1 0": b"64", b"1 0 100 ": b"64", b"": b"64", b" 0 100": b"73 1",
+              b"0 0 100": b"73 1", b"01 0 100": b"73 1",
+              b"1025 0 100": b"73 1", b"x x x": b"73 1", b"1  100": b"73 2", b"1 00 100": b"73 2", b"1 -1 100": b"73 2",
+              b"1 18446744073709551616 100": b"73 2", b"1 0 ": b"73 3", b"1 0 0": b"73 3",
+              b"1 0 67108864": b"73 3", b"1 0 100\r": b"73 3",
+              b"1 0 +5": b"73 3"}
+# the digests of no entries, of the first and of both, by the written forms of the two messages
+NO_DIGEST = bytes(32)
+ONE_DIGEST = hashlib.sha256(NO_DIGEST + TRANSFER_WRITTEN.encode()).digest()
+TWO_DIGESTS = hashlib.sha256(ONE_DIGEST + REPORT_WRITTEN.encode()).digest()
+# the words of questions for a digest, each with the digest that it has, and those that are refused
+DIGESTS = {b"1 0": NO_DIGEST, b"1 1": ONE_DIGEST, b"1 2": TWO_DIGESTS, b"2 0": NO_DIGEST, b"1024 0": NO_DIGEST}
+NO_DIGESTS = {b"1 3": b"73 2", b"2 1": b"73 2", b"1024 1": b"73 2", b"1 18446744073709551615": b"73 2",
+              b"1 18446744073709551616": b"73 2",
+              b"1 01": b"73 2", b"1 x": b"73 2", b"1 -1": b"73 2", b"1 ": b"73 2", b"0 0": b"73 1",
+              b"1025 0": b"73 1", b"x x": b"73 1",
+              b" 0": b"73 1", b"1": b"64", b"": b"64", b"1 0 0": b"64", b"1 0 ": b"64"}
 KILLS = 10
 
 
@@ -71,7 +102,8 @@ def third(program, folder):
     status = b"T|BANKDEFFXXX|T1|ACCEPTED\n"
     data, text = CUT_LINE + b"\n? status\n", b"READY 1:2\nACCEPTED 0\nTEXT %d\n%s\n" % (len(status), status)
     yield "3: again, and the status", served(program, two, data, text, kept, (2, 2))
-    data, text = b"? evaluate\n? status\n? evaluate now\n", b"READY 1:2\nTEXT 0\n\nTEXT %d\n%s\nREFUSED 64\n" % (len(status), status)
+    data, text = (b"? evaluate\n? status\n? evaluate now\n",
+                  b"READY 1:2\nTEXT 0\n\nTEXT %d\n%s\nREFUSED 64\n" % (len(status), status))
     yield "3: what is new is evaluated, without a text", served(program, two, data, text, kept, (2, 2))
 
 
@@ -79,7 +111,8 @@ def fourth(program, folder):
     """Deltas that a new site refuses."""
     early = b"delta 2\torigin 1 2 1\t" + REPORT_WRITTEN.encode()[:-1] + b"\tend 1"
     text = b"READY -\nREFUSED 41 1 0 2\nREFUSED 45 2\n"
-    yield "4: deltas that are refused", served(program, folder / "fourth", early + b"\ndelta 2\tend 1\n", text, b" site 2 2\n\t", (2, 2))
+    yield "4: deltas that are refused", served(program, folder / "fourth", early + b"\ndelta 2\tend 1\n", text,
+                                               b" site 2 2\n\t", (2, 2))
 
 
 def fifth(program, folder):
@@ -87,14 +120,17 @@ def fifth(program, folder):
     one, other = folder / "fifth", folder / "lines"
     one.write_bytes(WHOLE)
     other.write_bytes(A8 + b"\n" + A2 + b"\n")
-    yield "5: the journal of another site", session(program, 2, 2, one) == (b"", b"fault 76\n", 2) and one.read_bytes() == WHOLE
-    yield "5: the journal of another group", session(program, 1, 3, one) == (b"", b"fault 76\n", 2) and one.read_bytes() == WHOLE
+    yield "5: the journal of another site", session(program, 2, 2, one) == (b"", b"fault 76\n",
+                                                                            2) and one.read_bytes() == WHOLE
+    yield "5: the journal of another group", session(program, 1, 3, one) == (b"", b"fault 76\n",
+                                                                             2) and one.read_bytes() == WHOLE
     yield "5: a file of messages", (
         session(program, 1, 2, other) == (b"", b"fault 75\n", 2) and other.read_bytes() == A8 + b"\n" + A2 + b"\n")
     with Process(program, 1, 2, one) as process:
         ready = process.reply()
         yield "5: a journal that a process has", (
-            session(program, 1, 2, one) == (b"", b"fault 77\n", 2) and ready == b"READY 1:2\n" and process.ask(A8) == b"REPEAT\n")
+            session(program, 1, 2, one) == (b"", b"fault 77\n", 2) and ready == b"READY 1:2\n"
+            and process.ask(A8) == b"REPEAT\n")
         right = process.end() == (b"", b"", 0)
     yield "5: it is as it was", right and one.read_bytes() == WHOLE
 
@@ -116,19 +152,57 @@ def seventh(program, folder):
     yield "7: after the second sync", served(program, path, b"", b"READY 1:2\n", WHOLE)
 
 
+def eighth(program, folder):
+    """Entries of one origin, which a new site accepts in their order."""
+    one, two = folder / "eighth1", folder / "eighth2"
+    one.write_bytes(WHOLE)
+    for words, text in ENTRIES.items():
+        data, wanted = b"? entries " + words + b"\n", b"READY 1:2\nTEXT %d\n%s\n" % (len(text), text)
+        yield f"8: entries {words.decode()}", served(program, one, data, wanted, WHOLE)
+    for words, why in NO_ENTRIES.items():
+        wanted = b"READY 1:2\nREFUSED %s\n" % why
+        yield f"8: entries {words.decode()!r}", served(program, one, b"? entries " + words + b"\n", wanted, WHOLE)
+    yield "8: no word", served(program, one, b"? entries\n", b"READY 1:2\nREFUSED 64\n", WHOLE)
+    first, second, none = (text[:-1].replace(b"\n", b"\t") for text in (FIRST, SECOND, NONE))
+    data = b"\n".join([second, none, first, second, b""])
+    kept = b" site 2 2\n " + first + b"\n " + second + b"\n\t"
+    yield "8: they are accepted in their order", served(
+        program, two, data, b"READY -\nREFUSED 41 1 0 2\nACCEPTED 0\nACCEPTED 1\nACCEPTED 1\n", kept, (2, 2))
+
+
+def ninth(program, folder):
+    """Digests of what was taken, of the forms in which messages are written, before and after a message more."""
+    path = folder / "ninth"
+    path.write_bytes(WHOLE)
+    for words, digest in DIGESTS.items():
+        wanted = b"READY 1:2\nTEXT 64\n%s\n" % digest.hex().encode()
+        yield f"9: digest {words.decode()}", served(program, path, b"? digest " + words + b"\n", wanted, WHOLE)
+    for words, why in NO_DIGESTS.items():
+        yield f"9: digest {words.decode()!r}", served(program, path, b"? digest " + words + b"\n",
+                                                      b"READY 1:2\nREFUSED %s\n" % why, WHOLE)
+    one, two = (b"1:%d:%s\n" % (count, digest.hex().encode()) for count, digest in ((1, ONE_DIGEST), (2, TWO_DIGESTS)))
+    data = b"\n".join([b"? digests", A8, b"? digests", A2, b"? digest 1 2", b"? digests", b"? digest 1 1",
+                       b"? digests 1", b""])
+    text = (b"READY -\nTEXT 0\n\nTAKEN 1\nTEXT %d\n%s\nTAKEN 2\nTEXT 64\n%s\nTEXT %d\n%s\nTEXT 64\n%s\nREFUSED 64\n"
+            % (len(one), one, TWO_DIGESTS.hex().encode(), len(two), two, ONE_DIGEST.hex().encode()))
+    yield "9: what was asked before changes nothing", served(program, folder / "ninth2", data, text, WHOLE)
+
+
 def shown(program, folder):
     """The lives of examples/serve: a morning of site 2 of three, and its evening."""
     path, place = folder / "shown", EXAMPLES / "serve"
     for name in "morning", "evening":
         replies = (place / f"{name}.replies").read_bytes()
-        yield f"examples/serve, {name}", served(program, path, (place / f"{name}.requests").read_bytes(), replies, site=(2, 3))
+        yield f"examples/serve, {name}", served(program, path, (place / f"{name}.requests").read_bytes(), replies,
+                                                site=(2, 3))
     yield "examples/serve, the journal", path.read_bytes() == (place / "journal").read_bytes()
 
 
 def main():
     program = harness.program()
     with tempfile.TemporaryDirectory() as folder:
-        harness.end_of([reported(name, right) for example in (first, second, third, fourth, fifth, sixth, seventh, shown)
+        harness.end_of([reported(name, right)
+                        for example in (first, second, third, fourth, fifth, sixth, seventh, eighth, ninth, shown)
                         for name, right in example(program, pathlib.Path(folder))])
 
 

@@ -1,14 +1,18 @@
-"""serve_hub.py: three sites that last are killed while clients send messages and deltas come late, again, in any order or never.
+"""serve_hub.py: three sites that last are killed while clients send messages and deltas come late, again, in any order
+or never.
 
-Usage: python3 -m tests.serve.serve_hub [--seed N] [--cases N]   (default: the number of today as the seed, and 400 events)
+Usage: python3 -m tests.serve.serve_hub [--seed N] [--cases N]   (default: today's number as the seed, and 400 events)
 
-A client sends lines to any site, and again to any site what had no reply. A delta is the text of `? cut` above a vector that the site
-told, now or before, or that it never had. A site is killed in the middle of requests, of a cut or at rest, and starts again. No delta is
-refused but as early. No number is told of two lines, and each told number is the place of its line in the journal. In the end each
-site is given what it lacks: then all answer equal vectors, archives, statuses and totals, which are those of all lines with a reply.
+A client sends lines to any site, and again to any site what had no reply. A delta is the text of `? cut` above a vector
+that the site told, now or before, or that it never had, or the text of `? entries` of one origin above a count of such
+a vector. A site is killed in the middle of requests, of a cut or at rest, and starts again. No delta is refused but as
+early. No number is told of two lines, and each told number is the place of its line in the journal. In the end each
+site asks each other one for the entries of its number, a few at a time, until none comes: then all answer equal
+vectors, archives, statuses and totals, which are those of all lines with a reply.
 """
 import argparse
 import collections
+import itertools
 import pathlib
 import tempfile
 import time
@@ -23,8 +27,11 @@ from tests.serve.streams import Requests
 SITES, EVENTS = 3, 400
 SHARES = {"instruction": 50, "confirmation": 30, "contradiction": 4, "repeat": 10, "refused_line": 3, "blank": 3}
 TEXTS = {b"? archive": status.archive_text, b"? status": status.status_text, b"? totals": status.totals_text}
-TO_MEET = ["TAKEN", "REPEAT", "REFUSED", "ACCEPTED", "ACCEPTED 0", "REFUSED 41", "a kill among lines", "a kill at a delta",
-           "a kill at rest", "a kill at a cut", "sent again", "a late delta", "a delta twice", "a lost delta"]
+TO_MEET = ["TAKEN", "REPEAT", "REFUSED", "ACCEPTED", "ACCEPTED 0", "REFUSED 41",
+           "a kill among lines", "a kill at a delta",
+           "a kill at rest", "a kill at a cut", "sent again", "a late delta", "a delta twice",
+           "a lost delta", "entries of one origin",
+           "a text among the last"]
 
 
 class Wrong(Exception):
@@ -147,7 +154,7 @@ class Hub:
             self.kill(giver)
             self.met["a kill at a cut"] += 1
             return
-        line = delta_line(self.asked(giver, b"? cut " + have))
+        line = delta_line(self.asked(giver, b"? cut " + have if r.random() < 0.5 else self.entries(have)))
         way = r.choice(["now", "now", "late", "late", "twice", "lost"])
         self.met[{"late": "a late delta", "twice": "a delta twice", "lost": "a lost delta"}.get(way, way)] += 1
         if way == "lost":
@@ -159,6 +166,13 @@ class Hub:
             self.hand(taker, line)
         if way == "twice":
             self.hand(taker, line)
+
+    def entries(self, have):
+        """A question for entries of one origin above a vector."""
+        origin = self.r.choice(self.sites())
+        above = vector_in(have.decode()).get(origin, 0)
+        self.met["entries of one origin"] += 1
+        return b"? entries %d %d %d" % (origin, above, self.r.choice([1, 1500, 1 << 20]))
 
     def hand(self, site, line):
         """A delta is handed to a site, which may be killed at it."""
@@ -198,14 +212,24 @@ class Hub:
     # ---- the end
 
     def settle(self):
-        """What had no reply is sent until it has one. Then each site is given what it lacks."""
+        """What had no reply is sent until it has one. Then each site asks each other one for its entries, until none
+        comes."""
         while self.again:
             self.give()
-        for giver, taker in [(2, 1), (3, 1), (1, 2), (1, 3)]:
-            line = delta_line(self.asked(giver, b"? cut " + self.vector(taker)))
-            reply = self.at(taker).ask(line)
-            if not reply.startswith(b"ACCEPTED "):
-                raise Wrong(f"the last delta at site {taker}: {reply!r}")
+        for giver, taker in itertools.permutations(self.sites(), 2):
+            while self.catches_up(giver, taker):
+                self.met["a text among the last"] += 1
+
+    def catches_up(self, giver, taker):
+        """Whether a site had entries of its own that another one lacked, of which it accepted the first."""
+        above = vector_in(self.vector(taker).decode()).get(giver, 0)
+        line = delta_line(self.asked(giver, b"? entries %d %d %d" % (giver, above, self.r.choice([1, 1500, 5000]))))
+        reply = self.at(taker).ask(line)
+        if line != b"delta 2\tend 0" and reply[:9] == b"ACCEPTED " and int(reply[9:]) > 0:
+            return True
+        if line == b"delta 2\tend 0" and reply == b"ACCEPTED 0\n":
+            return False
+        raise Wrong(f"{line[:80]!r} at site {taker} in the end: {reply!r}")
 
     def judged(self):
         """Whether all answer equal bytes, which are the right ones, and each told number is that of its line."""
@@ -216,7 +240,8 @@ class Hub:
             yield question[2:].decode(), texts == {text_of(self.acknowledged).encode()}
         for site in self.sites():
             self.kill(site)
-        own = {site: [line for line in kept(self.journal(site))[1:] if not line.startswith(b"delta ")] for site in self.sites()}
+        own = {site: [line for line in kept(self.journal(site))[1:] if not line.startswith(b"delta ")]
+               for site in self.sites()}
         is_own = [own[site][number - 1:number] == [line] for (site, number), line in self.numbers.items()]
         yield "each number is that of its line", all(is_own)
         yield "each line of a journal is new to it", all(
@@ -248,7 +273,8 @@ def main():
         right += [reported(name, it) for name, it in hub.judged()] if why is None else []
         for site in list(hub.running):
             hub.kill(site)
-    print(f"{len(hub.acknowledged)} messages: " + ", ".join(f"{thing} {hub.met[thing]}" for thing in TO_MEET), flush=True)
+    print(f"{len(hub.acknowledged)} messages: " + ", ".join(f"{thing} {hub.met[thing]}" for thing in TO_MEET),
+          flush=True)
     missing = [thing for thing in TO_MEET if not hub.met[thing]] if events >= EVENTS and why is None else []
     harness.end_of([*right, *(reported(f"met: {thing}", False) for thing in missing)])
 

@@ -1,18 +1,21 @@
-"""serve_lives.py: a site that is killed at any moment keeps what it replied, in order and under its number, and makes nothing up.
+"""serve_lives.py: a site that is killed at any moment keeps what it replied, in order and under its number, and makes
+nothing up.
 
-Usage: python3 -m tests.serve.serve_lives [--seed N] [--cases N]   (default: the number of today as the seed, and 200 lives)
+Usage: python3 -m tests.serve.serve_lives [--seed N] [--cases N]   (default: today's number as the seed, and 200 lives)
 
-One journal has all lives. In each, the site is killed while requests come in writes of any size, or is closed in peace. A client sends
-again what had no reply. Between lives the end of the file is torn by hand as a crash may leave it: the front of a batch behind the shut
-gate, other bytes there, no gate, an open gate before no whole line. After each life:
+One journal has all lives. In each, the site is killed while requests come in writes of any size, or is closed in peace.
+A client sends again what had no reply. Between lives the end of the file is torn by hand as a crash may leave it: the
+front of a batch behind the shut gate, other bytes there, no gate, an open gate before no whole line. After each life:
 
 - the replies are the right ones, by tests/oracle/serve.py on the lines that the journal kept before;
-- the journal keeps what it kept, followed by what the requests with a reply brought, and then by no more than what the others brought;
+- the journal keeps what it kept, followed by what the requests with a reply brought, and then by no more than what the
+others brought;
 - no number was told of two lines, and each told number is the place of its line among the site's own;
 - the next life begins with the right vector, archive and status texts, and cuts off what is behind the shut gate.
 
-A small journal is cut after each byte of its last batch. A session is stopped at each write, sync and cut, once before it and once after
-half of the bytes; stop_at.c does that. There each batch is all there or not at all, and no reply is written before the second sync.
+A small journal is cut after each byte of its last batch. A session is stopped at each write, sync and cut, once before
+it and once after half of the bytes; stop_at.c does that. There each batch is all there or not at all, and no reply is
+written before the second sync.
 """
 import argparse
 import collections
@@ -116,19 +119,21 @@ class Lives:
         self.unanswered = lines[len(replies):][:40]
 
     def stream(self, process, lines):
-        """The replies to some requests until the end, which comes at any moment, or in peace once all is replied."""
+        """The replies to some requests until the end, which comes at any moment, or once all is replied: in peace, or
+        by a kill."""
         r, found = self.r, []
         process.send(b"".join(line + b"\n" for line in lines))
         most = r.choice([1, 10, 100, 1000, 1 << 16])
-        in_peace, latest = r.random() < 0.15, time.monotonic() + r.uniform(0, r.choice(SPANS))
+        (end,), latest = (r.choices(["in peace", "at rest", "at a moment"], [15, 10, 75]),
+                          time.monotonic() + r.uniform(0, r.choice(SPANS)))
         until = time.monotonic() + LATEST
-        while len(found) < len(lines) and (in_peace or time.monotonic() < latest):
+        while len(found) < len(lines) and (end != "at a moment" or time.monotonic() < latest):
             process.step(0.001, r.randint(1, most))
             replies, rest = replies_in(process.text)
             found += replies
             process.text[:] = rest
             must(process.is_open and time.monotonic() < until, f"it ended by itself, or stopped to reply: {rest!r}")
-        if in_peace:
+        if end == "in peace":
             self.met["closed in peace"] += 1
             answer = process.end()
             must(answer == (b"", b"", 0), f"at the end of its input: {answer}")
@@ -145,15 +150,18 @@ class Lives:
                 must(self.numbers.setdefault(number, line) == line, f"the number {number} was told of two lines")
 
     def check(self, brought, lasting):
-        """What the journal must keep: what it kept, what the replied requests brought, and no more than all requests brought."""
+        """What the journal must keep: what it kept, what the replied requests brought, and no more than all requests
+        brought."""
         found = kept(self.path)
         head = found[:1] in ([], [serve.header(OWN, GROUP)])
         must(head and (found or not self.lines), f"the header is {found[:1]}")
         found, before = found[1:], self.lines
-        must(found == (before + brought)[:len(found)], "the journal keeps other lines than those that brought something")
+        must(found == (before + brought)[:len(found)],
+             "the journal keeps other lines than those that brought something")
         must(len(found) >= len(before) + len(lasting), "the journal lost lines that had a reply")
         own = [line for line in found if not line.startswith(b"delta ")]
-        must(all(own[number - 1:number] == [line] for number, line in self.numbers.items()), "a number is not that of its line")
+        must(all(own[number - 1:number] == [line] for number, line in self.numbers.items()),
+             "a number is not that of its line")
         self.met["a delta kept"] += any(line.startswith(b"delta ") for line in found[len(before):])
         self.lines = found
 
@@ -170,7 +178,8 @@ def lives(program, asked, many):
         except (Wrong, Ended) as wrong:
             print(f"life {right + 1}: DIFFERS: {wrong}"[:3000], flush=True)
             return right, 1
-    print(f"{right} lives, {len(site.lines)} lines kept: " + ", ".join(f"{thing} {site.met[thing]}" for thing in TO_MEET), flush=True)
+    print(f"{right} lives, {len(site.lines)} lines kept: " + ", ".join(f"{thing} {site.met[thing]}"
+                                                                       for thing in TO_MEET), flush=True)
     missing = [thing for thing in TO_MEET if not site.met[thing]] if many >= LIVES else []
     if missing:
         print(f"not met: {missing}", flush=True)
@@ -204,7 +213,8 @@ def cuts(program, folder):
 
 # ---- a stop at each call
 
-ROUNDS = [[instruction(1)], [confirmation(1), "{}\n", instruction(2), instruction(1)], ["? vector\n"], [instruction(3), "\n"]]
+ROUNDS = [[instruction(1)], [confirmation(1), "{}\n", instruction(2), instruction(1)], ["? vector\n"],
+          [instruction(3), "\n"]]
 BROUGHT = [[instruction(1)], [confirmation(1), instruction(2)], [], [instruction(3)]]
 REPLIES = [1, 4, 1, 2]
 
@@ -239,13 +249,15 @@ def is_whole(path, replies):
 
 
 def is_right_order(calls):
-    """Whether nothing is written to standard output before what was written to the file is synced, and each write is synced."""
+    """Whether nothing is written to standard output before what was written to the file is synced, and each write is
+    synced."""
     letters = calls.replace("C", "W")
     return "WO" not in letters and "WW" not in letters and not letters.endswith("W")
 
 
 def stops(program, folder):
-    """Whether a session that is stopped at each of its calls leaves what it must, on a new journal and on one with a torn end."""
+    """Whether a session that is stopped at each of its calls leaves what it must, on a new journal and on one with a
+    torn end."""
     library = pathlib.Path(folder, "stop_at.so")
     source = pathlib.Path(__file__).with_name("stop_at.c")
     subprocess.run([harness.command("cc"), "-O2", "-shared", "-fPIC", "-o", library, source], check=True)
@@ -266,13 +278,15 @@ def stops(program, folder):
             path.write_bytes(start)
         replies, calls = stopped(program, library, path, 0, 0)
         pathlib.Path(f"{path}.calls").unlink()
-        yield reported(f"{name}: the order of its calls is {calls}", len(replies) == 1 + sum(REPLIES) and is_right_order(calls) and (
-            calls.count("W") >= 2 * sum(map(bool, BROUGHT))))
+        yield reported(f"{name}: the order of its calls is {calls}",
+                       len(replies) == 1 + sum(REPLIES) and is_right_order(calls) and (
+                           calls.count("W") >= 2 * sum(map(bool, BROUGHT))))
         places = [(number, part) for number in range(1, len(calls) + 1) for part in (0, 1)]
         with concurrent.futures.ThreadPoolExecutor(len(os.sched_getaffinity(0))) as pool:
             right = list(pool.map(tried, places))
         yield reported(f"{name}: stopped at each call, in {len(places)} ways", all(right), "".join(
-            f"call {number}, {'after a part' if part else 'before'}\n" for (number, part), it in zip(places, right) if not it))
+            f"call {number}, {'after a part' if part else 'before'}\n" for (number, part), it in zip(places, right)
+            if not it))
 
 
 def main():

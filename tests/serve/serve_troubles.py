@@ -1,5 +1,5 @@
-"""serve_troubles.py: `serve` in trouble: files that it must not touch, disks and readers that fail, requests that are too long or no
-requests, and a journal in its making.
+"""serve_troubles.py: `serve` in trouble: files that it must not touch, disks and readers that fail, requests that are
+too long or no requests, and a journal in its making.
 """
 import os
 import pathlib
@@ -44,12 +44,15 @@ def leaves(program, path, wanted):
 
 def foreign(program, folder):
     """Files that are no journal (75), and journals of other sites (76)."""
-    no_journals = {"messages": line(1) + b"\n", "text": b"hello\n", "two bytes": b"  ", "two zeros": b"\0\0", "a line feed": b"\n\n",
-                   "a front of the header": b" site 1", "a shut gate before a long file": b"\t" + journal_of(1)[1:],
-                   "a header behind another gate": b"x" + journal_of(1)[1:], "a header without its gate": journal_of(1)[1:],
-                   "another first word": b" sites 1 2\n\t", "no header": serve.gated([line(1)]), "small letters": b" Site 1 2\n\t",
-                   "a database": b"SQLite format 3\0" + bytes(100)}
-    others = {"site 2": b" site 2 2\n\t", "group 3": b" site 1 3\n\t", "site 11": b" site 11 2\n\t", "group 21": b" site 1 21\n\t",
+    no_journals = {
+        "messages": line(1) + b"\n", "text": b"hello\n", "two bytes": b"  ",
+        "two zeros": b"\0\0", "a line feed": b"\n\n",
+        "a front of the header": b" site 1", "a shut gate before a long file": b"\t" + journal_of(1)[1:],
+        "a header behind another gate": b"x" + journal_of(1)[1:], "a header without its gate": journal_of(1)[1:],
+        "another first word": b" sites 1 2\n\t", "no header": serve.gated([line(1)]), "small letters": b" Site 1 2\n\t",
+        "a database": b"SQLite format 3\0" + bytes(100)}
+    others = {"site 2": b" site 2 2\n\t", "group 3": b" site 1 3\n\t", "site 11": b" site 11 2\n\t",
+              "group 21": b" site 1 21\n\t",
               "no number": b" site x\n\t", "no line feed": b" site 1 2", "two spaces": b" site 1  2\n\t",
               "a carriage return": b" site 1 2\r\n\t"}
     no_journals["a front of the header"] = b" site"
@@ -62,7 +65,8 @@ def foreign(program, folder):
 
 def places(program, folder):
     """Paths at which no journal can be (78), and words that ask for nothing (64)."""
-    missing, read_only, twice, other = (folder / name for name in ("nowhere/journal", "read-only", "twice", "other name"))
+    missing, read_only, twice, other = (folder / name
+                                        for name in ("nowhere/journal", "read-only", "twice", "other name"))
     yield "78: a folder", session(program, 1, 2, folder) == fault(78)
     yield "78: a missing folder", session(program, 1, 2, missing) == fault(78) and not missing.parent.exists()
     yield "78: a device", session(program, 1, 2, "/dev/null") == fault(78)
@@ -88,7 +92,8 @@ def places(program, folder):
     linked.write_bytes(journal_of(1))
     link.symlink_to(linked)
     yield "a link to a journal", (
-        session(program, 1, 2, link, line(2) + b"\n") == (b"READY 1:1\nTAKEN 2\n", b"", 0) and linked.read_bytes() == journal_of(1, 2))
+        session(program, 1, 2, link, line(2) + b"\n") == (b"READY 1:1\nTAKEN 2\n", b"", 0)
+        and linked.read_bytes() == journal_of(1, 2))
     for words in (["0", "2"], ["3", "2"], ["01", "2"], ["1", "1025"], ["1", "2:"], ["", "2"]):
         path = folder / "unasked"
         text, errors, status = session(program, *words, path)
@@ -129,7 +134,8 @@ def in_its_making(program, folder):
         right.append(found == (b"READY -\nTAKEN 1\n", b"", 0) and path.read_bytes() == journal_of(1))
     yield f"a journal in its making, in {len(files)} ways", all(right)
     path.write_bytes(whole)
-    yield "a journal that has its header alone", session(program, 1, 2, path) == (b"READY -\n", b"", 0) and path.read_bytes() == whole
+    yield "a journal that has its header alone", session(program, 1, 2, path) == (b"READY -\n", b"",
+                                                                                  0) and path.read_bytes() == whole
 
 
 def at_rest(program, folder):
@@ -148,7 +154,8 @@ def at_rest(program, folder):
         session(program, 1, 2, path) == (b"READY 1:1\n", b"", 0) and path.read_bytes() == journal_of(1)[:-1] + b"x"
         and path.stat().st_mtime_ns == 10 ** 18)
     yield "and is opened by the next batch", (
-        session(program, 1, 2, path, line(2) + b"\n") == (b"READY 1:1\nTAKEN 2\n", b"", 0) and path.read_bytes() == journal_of(1, 2))
+        session(program, 1, 2, path, line(2) + b"\n") == (b"READY 1:1\nTAKEN 2\n", b"", 0)
+        and path.read_bytes() == journal_of(1, 2))
 
 
 # ---- disks and readers that fail
@@ -207,18 +214,21 @@ def full_disk(program, folder):
         replies, answer = fills(program, path, 3)
         right = answer.errors == b"fault 78\n" and answer.status == 2 and len(replies) > 1
         shutil.copy(path, folder / "copy")
-        yield f"78: a disk that is full, after {len(replies)} replies", right and keeps(program, folder / "copy", replies)
+        yield f"78: a disk that is full, after {len(replies)} replies", right and keeps(program, folder / "copy",
+                                                                                        replies)
     finally:
         subprocess.run(["umount", str(disk)], check=True)
 
 
 def readers(program, folder):
-    """A reader that goes away (63), after each of some replies; an output that is full; an input that cannot be read (62)."""
+    """A reader that goes away (63), after each of some replies; an output that is full; an input that cannot be read
+    (62)."""
     for after in range(4):
         path = folder / f"reader {after}"
         end, into = os.pipe()
         with open(into, "wb") as into:
-            process = subprocess.Popen([program, "serve", "1", "2", str(path)], stdin=subprocess.PIPE, stdout=into, stderr=subprocess.PIPE)
+            process = subprocess.Popen([program, "serve", "1", "2", str(path)], stdin=subprocess.PIPE, stdout=into,
+                                       stderr=subprocess.PIPE)
         text = b""
         for number in range(after + 1):
             wanted = b"READY -\n" + b"".join(b"TAKEN %d\n" % it for it in range(1, number + 1))
@@ -236,7 +246,8 @@ def readers(program, folder):
     path = folder / "full output"
     with open("/dev/full", "wb") as full:
         found = session(program, 1, 2, path, line(1) + b"\n", stdout=full)
-    yield "63: an output that is full", (found.errors, found.status) == (b"fault 63\n", 2) and kept(path) in ([HEAD], [HEAD, line(1)])
+    yield "63: an output that is full", (found.errors, found.status) == (b"fault 63\n",
+                                                                         2) and kept(path) in ([HEAD], [HEAD, line(1)])
     path = folder / "no input"
     with open("/proc/self/mem", "rb") as unread:
         found = harness.run([program, "serve", "1", "2", str(path)], stdin=unread, seconds=LATEST)
@@ -253,7 +264,8 @@ def long_requests(program, folder):
             ("blanks of 64 MiB", b" " * MOST, b"\n"), ("no message of 64 MiB", b"x" * MOST, b"REFUSED 31\n")):
         path = folder / "long"
         path.write_bytes(journal_of(1))
-        yield name, session(program, 1, 2, path, request + b"\n" + line(1) + b"\n") == (b"READY 1:1\n" + wanted + b"REPEAT\n", b"", 0)
+        yield name, session(program, 1, 2, path,
+                            request + b"\n" + line(1) + b"\n") == (b"READY 1:1\n" + wanted + b"REPEAT\n", b"", 0)
         again = (b"READY 1:2\nREPEAT\n", b"", 0) if wanted == b"TAKEN 2\n" else (b"READY 1:1\nTAKEN 2\n", b"", 0)
         yield f"{name}, and a start after it", session(program, 1, 2, path, line(2) + b"\n") == again
     for name, request in ("a message", message + b" " * (MOST + 1 - len(message))), ("blanks", b" " * (MOST + 1)):
@@ -268,7 +280,8 @@ def long_requests(program, folder):
         process.send(b"x" * (MOST + 1))
         answer = process.end()
         yield "60: as soon as it has them, after a reply", (
-            replies == [b"READY 1:1\n", b"TAKEN 2\n"] and answer == fault(60) and kept(path) == [HEAD, line(1), message])
+            replies == [b"READY 1:1\n", b"TAKEN 2\n"] and answer == fault(60)
+            and kept(path) == [HEAD, line(1), message])
 
 
 def long_journals(program, folder):
@@ -276,7 +289,8 @@ def long_journals(program, folder):
     path, right = folder / "long lines", []
     for length in [*range(MOST_READ - 3, MOST_READ + 4), 2 * MOST_READ, 5 * MOST_READ + 1]:
         long = line(1) + b" " * (length - len(line(1)))
-        for file, ready in ((serve.gated([HEAD, long, line(2)]), b"READY 1:2\n"), (serve.gated([HEAD, line(2), long]), b"READY 1:2\n"),
+        for file, ready in ((serve.gated([HEAD, long, line(2)]), b"READY 1:2\n"),
+                            (serve.gated([HEAD, line(2), long]), b"READY 1:2\n"),
                             (serve.gated([HEAD, line(2), long])[:-2], b"READY 1:1\n")):
             path.write_bytes(file)
             at_rest = file if ready == b"READY 1:2\n" else journal_of(2)
@@ -301,24 +315,35 @@ def long_inputs(program, folder):
 def ends(program, folder):
     """Inputs that end before a line feed, or at once."""
     path = folder / "ends"
-    for data, text in ((b"", b""), (line(1), b""), (line(1) + b"\n" + line(2), b"TAKEN 1\n"), (b"? vector", b""), (b" ", b""),
+    for data, text in ((b"", b""), (line(1), b""), (line(1) + b"\n" + line(2), b"TAKEN 1\n"),
+                       (b"? vector", b""), (b" ", b""),
                        (b"\n", b"\n"), (b"\n\n", b"\n\n"), (b"foo\n\n? vec", b"REFUSED 31\n\n")):
         path.unlink(missing_ok=True)
-        yield f"an input that ends with {data[-8:]!r}", session(program, 1, 2, path, data) == (b"READY -\n" + text, b"", 0)
+        yield f"an input that ends with {data[-8:]!r}", session(program, 1, 2, path, data) == (b"READY -\n" + text, b"",
+                                                                                               0)
 
 
 def questions(program, folder):
     """Each question that is refused, by hand."""
     report = b"? report BANKDEFF 2024-05-02 DbtrAgt,TxId,Amt,Sts"
     wanted = {
-        b"? ": b"64", b"?  vector": b"64", b"? foo": b"64", b"? Status": b"64", b"? status now": b"64", b"? vector ": b"64",
+        b"? ": b"64", b"?  vector": b"64", b"? foo": b"64", b"? Status": b"64",
+        b"? status now": b"64", b"? vector ": b"64",
         b"? cut": b"64", b"? cut ": b"72", b"? cut - -": b"64", b"? transfer": b"64", b"? transfer BANKDEFF": b"64",
-        b"? messages BANKDEFF": b"64", b"? bank": b"64", b"? bank BANKDEFF x": b"64", b"? report": b"64", b"? report BANKDEFF": b"64",
+        b"? messages BANKDEFF": b"64", b"? bank": b"64", b"? bank BANKDEFF x": b"64",
+        b"? report": b"64", b"? report BANKDEFF": b"64",
         b"? report BANKDEFF 2024-05-02": b"64",
-        b"? vector\r": b"64", b"? \tvector": b"64", b"? cut 1": b"72", b"? cut 2:1,1:1": b"72", b"? cut 0:1": b"72", b"? cut 1:01": b"72",
-        b"? cut -\r": b"72", b"? transfer bankdeff T1": b"73 1", b"? transfer BANKDEFF a_b": b"73 2", b"? transfer BANKDEFF /T": b"73 2",
-        b"? messages x T1": b"73 1", b"? messages BANKDEFF a//b": b"73 2", b"? bank BANKDEFFX": b"73 1", b"? bank BANKDEFF\r": b"73 1",
-        report.replace(b"BANKDEFF", b"x"): b"73 1", report.replace(b"2024-05-02", b"today"): b"73 2", report[:-1]: b"48 1",
+        b"? vector\r": b"64", b"? \tvector": b"64", b"? cut 1": b"72", b"? cut 2:1,1:1": b"72",
+        b"? cut 0:1": b"72", b"? cut 1:01": b"72",
+        b"? cut -\r": b"72", b"? transfer bankdeff T1": b"73 1", b"? transfer BANKDEFF a_b": b"73 2",
+        b"? transfer BANKDEFF /T": b"73 2",
+        b"? entries": b"64", b"? entries 1 0": b"64", b"? entries 1 0 9 9": b"64",
+        b"? entries 1025 0 9": b"73 1", b"? entries x y z": b"73 1",
+        b"? entries 1 x 9": b"73 2", b"? entries 1 0 0": b"73 3", b"? entries 1 0 67108864": b"73 3",
+        b"? messages x T1": b"73 1", b"? messages BANKDEFF a//b": b"73 2", b"? bank BANKDEFFX": b"73 1",
+        b"? bank BANKDEFF\r": b"73 1",
+        report.replace(b"BANKDEFF", b"x"): b"73 1",
+        report.replace(b"2024-05-02", b"today"): b"73 2", report[:-1]: b"48 1",
         report + b"\tBANKDEFF,T1,0,ACCEPTED": b"48 2", report + b"\tBANKDEFF,T1,1,ACCEPTED\t\tBANKDEFF,T1,1": b"48 3"}
     path = folder / "questions"
     data = b"".join(question + b"\n" for question in wanted)
@@ -335,14 +360,16 @@ def questions(program, folder):
     yield f"{len(WRONG_QUESTIONS)} more", session(program, 1, 2, path, data) == (b"READY -\n" + text, b"", 0)
 
 
-TROUBLES = [foreign, places, second_process, in_its_making, at_rest, full_files, full_disk, readers, long_requests, long_journals,
+TROUBLES = [foreign, places, second_process, in_its_making, at_rest, full_files, full_disk,
+            readers, long_requests, long_journals,
             long_inputs, ends, questions]
 
 
 def main():
     program = harness.program()
     with tempfile.TemporaryDirectory() as folder:
-        harness.end_of([reported(name, right) for trouble in TROUBLES for name, right in trouble(program, pathlib.Path(folder))])
+        harness.end_of([reported(name, right) for trouble in TROUBLES
+                        for name, right in trouble(program, pathlib.Path(folder))])
 
 
 if __name__ == "__main__":

@@ -8,7 +8,7 @@ from typing import Any
 from tests import harness
 from tests.oracle import serve
 
-LATEST = 30  # seconds in which a reply must come
+LATEST = 60  # seconds in which a reply must come, also on a busy machine
 MOST = 1 << 16  # how much is read or written in one step
 
 
@@ -43,7 +43,8 @@ class Process:
     def __init__(self, program: Any, own: Any, group: Any, journal: Any, room: Any = None, **variables: Any) -> None:
         self.unsent, self.text, self.is_open = bytearray(), bytearray(), True
         self.process = subprocess.Popen(
-            [program, "serve", str(own), str(group), str(journal)], bufsize=0, stdin=subprocess.PIPE, stdout=subprocess.PIPE,
+            [program, "serve", str(own), str(group), str(journal)], bufsize=0,
+            stdin=subprocess.PIPE, stdout=subprocess.PIPE,
             stderr=subprocess.PIPE, preexec_fn=harness.limits(None, None, room), restore_signals=room is None,
             env={**os.environ, **variables})
         os.set_blocking(self.process.stdin.fileno(), False)

@@ -1,17 +1,24 @@
-"""streams.py: made-up requests to a site that lasts: messages that meet, repeats, refused lines, deltas of peers, questions."""
+"""streams.py: made-up requests to a site that lasts: messages that meet, repeats, refused lines, deltas of peers,
+questions."""
 from bench.generate import samples
 from tests import inputs
 from tests.oracle import exchange
 from tests.oracle.status import read_message
 from tests.serve.serving import delta_line
 
-REFUSED = [b"{}", b"foo", b"[]", b'{"MsgNmId":"pacs.008"}', b"\xff", b"delta 3", b"delta 2\tend 1", b"delta ", b"delta", b"site 1 3", b"?"]
+REFUSED = [b"{}", b"foo", b"[]", b'{"MsgNmId":"pacs.008"}', b"\xff", b"delta 3", b"delta 2\tend 1", b"delta ", b"delta",
+           b"site 1 3", b"?"]
 BLANK = [b"", b" ", b"\t", b"\r", b" \t\r"]
-WRONG_QUESTIONS = [b"? ", b"?  ", b"? foo", b"? status now", b"? cut", b"? cut - -", b"? cut 1:x", b"? transfer BANKDEFF", b"? bank",
-                   b"? Vector", b"? vector ", b"? bank x", b"? transfer BANKDEFF /", b"? messages x T1", b"? report BANKDEFF 2024-05-02",
-                   b"? report BANKDEFF 2024-05-02 DbtrAgt", b"? report BANKDEFF 2024-5-2 DbtrAgt", b"? bank BANKDEFF BANKDEFF"]
+WRONG_QUESTIONS = [
+    b"? ", b"?  ", b"? foo", b"? status now", b"? cut", b"? cut - -", b"? cut 1:x", b"? transfer BANKDEFF", b"? bank",
+    b"? Vector", b"? vector ", b"? bank x", b"? transfer BANKDEFF /", b"? messages x T1",
+    b"? report BANKDEFF 2024-05-02",
+    b"? report BANKDEFF 2024-05-02 DbtrAgt", b"? report BANKDEFF 2024-5-2 DbtrAgt", b"? bank BANKDEFF BANKDEFF",
+    b"? entries 1 0", b"? entries 1 0 ", b"? entries 0 0 1", b"? entries 1 00 1", b"? entries 1 0 67108864",
+    b"? digest", b"? digest 1", b"? digest 0 0", b"? digest 1 00", b"? digest 1 99999", b"? digests 1"]
 REPORT = b"? report BANKDEFF 2024-05-02 DbtrAgt,TxId,Amt,Sts\tBANKDEFF,T1,1.00,ACCEPTED\tBANKDEFF,T2,2.00,PENDING\t"
-SHARES = {"instruction": 50, "confirmation": 22, "contradiction": 3, "repeat": 9, "refused": 6, "blank": 3, "delta": 8, "question": 4,
+SHARES = {"instruction": 50, "confirmation": 22, "contradiction": 3, "repeat": 9, "refused": 6,
+          "blank": 3, "delta": 8, "question": 4,
           "wrong_question": 1}
 
 
@@ -64,7 +71,8 @@ class Requests:
     def contradiction(self):
         number = self.r.randint(1, self.next)
         amount = f"{self.r.randint(2, 9)}.00"
-        return samples.line(samples.instruction(MsgId=f"M{number}", TxId=f"T{number}", IntrBkSttlmAmt=amount)).rstrip("\n").encode()
+        return samples.line(samples.instruction(MsgId=f"M{number}", TxId=f"T{number}",
+                                                IntrBkSttlmAmt=amount)).rstrip("\n").encode()
 
     def repeat(self):
         return self.r.choice(self.sent[-200:])
@@ -85,6 +93,10 @@ class Requests:
         number = self.r.randint(1, self.next)
         origins = sorted(self.r.sample(range(1, self.group + 2), self.r.randint(0, 2)))
         have = ",".join(f"{origin}:{self.r.randint(0, self.next)}" for origin in origins) or "-"
-        return self.r.choice([b"? vector", b"? cut %s" % have.encode(), b"? status", b"? totals", b"? archive", b"? contradictions",
-                              b"? evaluate", b"? transfer BANKDEFF T%d" % number, b"? messages BANKDEFFXXX T%d" % number,
+        most = self.r.choice([1, 600, 3000, self.r.randint(1, 20_000), 67_108_863])
+        entries = b"? entries %d %d %d" % (self.r.randint(1, self.group + 1), self.r.randint(0, self.next), most)
+        return self.r.choice([b"? vector", b"? cut %s" % have.encode(), entries, b"? status", b"? totals",
+                              b"? archive", b"? contradictions",
+                              b"? evaluate", b"? transfer BANKDEFF T%d" % number,
+                              b"? messages BANKDEFFXXX T%d" % number,
                               b"? bank BANQFRPP", REPORT])

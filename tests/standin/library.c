@@ -1,6 +1,6 @@
 /* library.c: a stand-in for libniluppang.so, of the definitions. Each call is handed to a process of library.py, which answers it.
  *
- * A request is a line: a call without `sct_raw_`, the number of a site, two numbers, and the lengths of three texts, which follow the line.
+ * A request is a line: a call without `sct_raw_`, the number of a site, three numbers, and the lengths of three texts, which follow the line.
  * A reply is a line of the fields ok, code, place, length, is_repeat, number, fresh, repeats and refused, and the length of a text, which
  * follows. SERVER is the path of library.py. It is for tests of bindings where nothing is proved: it is slow, and ends the process after
  * any fault of its own. It ends the process after a null pointer too, which no function of the library is given.
@@ -32,6 +32,10 @@ struct text {
     size_t length;
 };
 
+struct numbers {
+    unsigned long first, second, third;
+};
+
 struct reply {
     unsigned long ok, code, place, length, is_repeat, number, fresh, repeats, refused;
     uint8_t *text;
@@ -42,6 +46,7 @@ static pthread_mutex_t lock = PTHREAD_MUTEX_INITIALIZER;
 static int to = -1, from = -1;
 static long sites;
 static const struct text none = {"", 0};
+static const struct numbers zero = {0, 0, 0};
 
 static void must(bool holds) {
     if (!holds) abort();
@@ -98,14 +103,19 @@ static struct text of(const void *at, size_t length) {
     return it;
 }
 
+static struct numbers one(unsigned long first) {
+    struct numbers it = {first, 0, 0};
+    return it;
+}
+
 /* The reply to a request. Its text is freed by who asks. */
-static struct reply asked(const char *call, long site, unsigned long first, unsigned long second, const struct text *texts) {
+static struct reply asked(const char *call, long site, struct numbers n, const struct text *texts) {
     struct reply it;
     int place;
     char line[256];
     begin();
-    place = snprintf(line, sizeof line, "%s %ld %lu %lu %zu %zu %zu\n", call, site, first, second, texts[0].length, texts[1].length,
-                     texts[2].length);
+    place = snprintf(line, sizeof line, "%s %ld %lu %lu %lu %zu %zu %zu\n", call, site, n.first, n.second, n.third, texts[0].length,
+                     texts[1].length, texts[2].length);
     write_all(line, (size_t)place);
     for (place = 0; place < 3; place++) write_all(texts[place].at, texts[place].length);
     read_line(line, sizeof line);
@@ -129,25 +139,25 @@ static struct reply refused(uint8_t code) {
 }
 
 /* The reply to a call at a site. */
-static struct reply told(sct_site *site, const char *call, unsigned long first, struct text a, struct text b, struct text c) {
+static struct reply told(sct_site *site, const char *call, struct numbers n, struct text a, struct text b, struct text c) {
     const struct held *held = site->private_address;
     const struct text texts[] = {a, b, c};
     struct reply it;
     if (!site->private_is_full) return refused(SCT_EMPTY);
     pthread_mutex_lock(&lock);
-    it = asked(call, held->number, first, 0, texts);
+    it = asked(call, held->number, n, texts);
     pthread_mutex_unlock(&lock);
     return it;
 }
 
 /* The reply to a call that is refused if there is no memory. */
-static struct reply tried(sct_site *site, const char *call, unsigned long first, struct text a, struct text b, struct text c) {
-    return told(site, site->private_is_full && is_out_of_memory() ? "starved" : call, first, a, b, c);
+static struct reply tried(sct_site *site, const char *call, struct numbers n, struct text a, struct text b, struct text c) {
+    return told(site, site->private_is_full && is_out_of_memory() ? "starved" : call, n, a, b, c);
 }
 
 /* A call at a site that makes no text. */
 static struct reply called(sct_site *site, const char *call, struct text text) {
-    struct reply it = tried(site, call, 0, text, none, none);
+    struct reply it = tried(site, call, zero, text, none, none);
     free(it.text);
     it.text = 0;
     return it;
@@ -162,8 +172,8 @@ static void answers(sct_site *site, uint8_t *text, size_t length) {
 }
 
 /* A call at a site that makes an answer. */
-static struct reply made(sct_site *site, const char *call, unsigned long first, struct text a, struct text b, struct text c) {
-    struct reply it = tried(site, call, first, a, b, c);
+static struct reply made(sct_site *site, const char *call, struct numbers n, struct text a, struct text b, struct text c) {
+    struct reply it = tried(site, call, n, a, b, c);
     if (it.ok)
         answers(site, it.text, it.size);
     else
@@ -178,11 +188,12 @@ static sct_outcome outcome(struct reply it) {
 }
 
 static sct_outcome made_of(sct_site *site, const char *call, struct text a, struct text b, struct text c) {
-    return outcome(made(site, call, 0, a, b, c));
+    return outcome(made(site, call, zero, a, b, c));
 }
 
 static sct_outcome begun(sct_site *site, const char *call, uint16_t number, uint16_t group, struct text journal, struct text delta) {
     const struct text texts[] = {journal, delta, none};
+    const struct numbers numbers = {number, group, 0};
     struct reply it;
     struct held *held;
     if (site->private_is_full) return outcome(refused(SCT_FULL));
@@ -191,7 +202,7 @@ static sct_outcome begun(sct_site *site, const char *call, uint16_t number, uint
     held = calloc(1, sizeof *held);
     must(held != 0);
     held->number = ++sites;
-    it = asked(call, held->number, number, group, texts);
+    it = asked(call, held->number, numbers, texts);
     held->answer = it.text;
     held->length = it.size;
     site->private_is_full = it.ok;
@@ -218,7 +229,7 @@ sct_outcome sct_raw_restore(sct_site *site, uint16_t number, uint16_t group, con
 }
 
 void sct_raw_close(sct_site *site) {
-    struct reply it = told(site, "close", 0, none, none, none);
+    struct reply it = told(site, "close", zero, none, none, none);
     if (!site->private_is_full) return;
     free(it.text);
     free(((struct held *)site->private_address)->answer);
@@ -234,7 +245,7 @@ sct_taken sct_raw_take(sct_site *site, const uint8_t *json, size_t length) {
 }
 
 sct_lines sct_raw_take_lines(sct_site *site, const uint8_t *text, size_t length) {
-    struct reply it = made(site, "take_lines", 0, of(text, length), none, none);
+    struct reply it = made(site, "take_lines", zero, of(text, length), none, none);
     sct_lines found = {it.ok, it.code, it.place, it.fresh, it.repeats, it.refused, it.length, 0};
     return found;
 }
@@ -246,7 +257,7 @@ sct_accepted sct_raw_accept(sct_site *site, const uint8_t *text, size_t length) 
 }
 
 sct_outcome sct_raw_counts(sct_site *site, uint64_t *counts, size_t items) {
-    struct reply it = told(site, "counts", items, none, none, none);
+    struct reply it = told(site, "counts", one(items), none, none, none);
     must(counts != 0);
     if (it.ok) memcpy(counts, it.text, it.size);
     free(it.text);
@@ -261,12 +272,22 @@ sct_outcome sct_raw_cut_above(sct_site *site, const uint64_t *counts, size_t ite
     return made_of(site, "cut_above", of(counts, 8 * items), none, none);
 }
 
+sct_outcome sct_raw_entries(sct_site *site, uint16_t origin, uint64_t above, uint64_t most) {
+    const struct numbers numbers = {origin, above, most};
+    return outcome(made(site, "entries", numbers, none, none, none));
+}
+
+sct_outcome sct_raw_digest(sct_site *site, uint16_t origin, uint64_t count) {
+    const struct numbers numbers = {origin, count, 0};
+    return outcome(made(site, "digest", numbers, none, none, none));
+}
+
 sct_outcome sct_raw_journal_text(sct_site *site, uint64_t above) {
-    return outcome(made(site, "journal_text", above, none, none, none));
+    return outcome(made(site, "journal_text", one(above), none, none, none));
 }
 
 sct_outcome sct_raw_newest_text(sct_site *site, uint64_t count) {
-    return outcome(made(site, "newest_text", count, none, none, none));
+    return outcome(made(site, "newest_text", one(count), none, none, none));
 }
 
 sct_outcome sct_raw_reading_text(sct_site *site, const uint8_t *text, size_t length) {
@@ -307,6 +328,7 @@ sct_outcome sct_raw_bank_totals(sct_site *site, const uint8_t *bank, size_t bank
         return made_of(site, #name, none, none, none); \
     }
 TEXT(vector_text)
+TEXT(digests_text)
 TEXT(archive_text)
 TEXT(status_text)
 TEXT(totals_text)
@@ -314,7 +336,7 @@ TEXT(contradictions_text)
 TEXT(changes)
 
 sct_outcome sct_raw_answer_end(sct_site *site) {
-    struct reply it = told(site, "answer_end", 0, none, none, none);
+    struct reply it = told(site, "answer_end", zero, none, none, none);
     if (it.ok) answers(site, it.text, 0);
     return outcome(it);
 }
@@ -343,7 +365,7 @@ sct_outcome sct_raw_why(sct_site *site, uint8_t *out, size_t room) {
     struct reply it;
     must(out != 0);
     if (site->private_is_full && is_out_of_memory()) return outcome(refused(SCT_MEMORY));
-    it = told(site, "why", MOST, none, none, none);
+    it = told(site, "why", one(MOST), none, none, none);
     if (it.ok && it.size <= room) memcpy(out, it.text, it.size);
     free(it.text);
     return outcome(it);
@@ -352,10 +374,11 @@ sct_outcome sct_raw_why(sct_site *site, uint8_t *out, size_t room) {
 /* Copies what the definitions have for a number. */
 static size_t of_code(const char *call, uint8_t code, uint8_t *out, size_t room) {
     const struct text texts[] = {none, none, none};
+    const struct numbers numbers = {code, MOST, 0};
     struct reply it;
     must(out != 0);
     pthread_mutex_lock(&lock);
-    it = asked(call, 0, code, MOST, texts);
+    it = asked(call, 0, numbers, texts);
     pthread_mutex_unlock(&lock);
     if (it.size <= room) memcpy(out, it.text, it.size);
     free(it.text);

@@ -7,9 +7,11 @@ sys.path.insert(0, str(pathlib.Path(__file__).resolve().parents[2]))
 from tests.embed.model import Handle
 
 FIELDS = ["ok", "code", "place", "length", "is_repeat", "number", "fresh", "repeats", "refused"]
-# the arguments of each call, of two numbers and three texts; the texts that a call copies are copied whole
-NUMBERS = {"open": 2, "restore": 2, "counts": 1, "journal_text": 1, "newest_text": 1, "why": 1, "code_name": 2, "code_text": 2}
-TEXTS = {"restore": 2, "take": 1, "take_lines": 1, "accept": 1, "cut": 1, "cut_above": 1, "reading_text": 1, "report": 3,
+# the arguments of each call, of three numbers and three texts; the texts that a call copies are copied whole
+NUMBERS = {"open": 2, "restore": 2, "counts": 1, "entries": 3, "digest": 2, "journal_text": 1, "newest_text": 1,
+           "why": 1, "code_name": 2, "code_text": 2}
+TEXTS = {"restore": 2, "take": 1, "take_lines": 1, "accept": 1, "cut": 1, "cut_above": 1,
+         "reading_text": 1, "report": 3,
          "kept_text": 1, "closed_text": 1, "transfer_text": 2, "messages_text": 2, "bank_totals": 1}
 COUNTS = "cut_above"
 
@@ -18,7 +20,7 @@ def main():
     handles, read, write = {}, sys.stdin.buffer, sys.stdout.buffer
     for line in iter(read.readline, b""):
         name, number, *more = line.decode().split()
-        numbers, texts = list(map(int, more[:2])), [read.read(int(length)) for length in more[2:]]
+        numbers, texts = list(map(int, more[:3])), [read.read(int(length)) for length in more[3:]]
         if name == COUNTS:
             texts[0] = struct.unpack(f"={len(texts[0]) // 8}Q", texts[0])
         handle = handles.setdefault(number, Handle())

@@ -1,5 +1,5 @@
-"""hot_inputs.py: inputs in which one transfer, or one delta, has very many messages, one in which recalls tie very many transfers in a
-chain, and one in which all lines are refused."""
+"""hot_inputs.py: inputs in which one transfer, or one delta, has very many messages, one in which recalls tie very many
+transfers in a chain, and one in which all lines are refused."""
 from bench.generate import messages, samples
 
 REFUSED = {"TxSts": "RJCT", "Rsn": "AC01"}
@@ -25,7 +25,8 @@ def recalls_in_lists(many):
 
 
 def recalls_with_all(many):
-    """Recalls of one transfer, and for each of them a refusal and a request. A return for each would contradict itself."""
+    """Recalls of one transfer, and for each of them a refusal and a request. A return for each would contradict
+    itself."""
     found = accepted()
     for i in range(many // 3):
         found += [samples.recall([samples.transaction(CxlId=f"R{i}")], MsgId=f"K{i}"),
@@ -46,13 +47,15 @@ def contradicted_recalls(many):
 
 
 def chained_recalls(many):
-    """Accepted transfers, each recalled together with the next one. All recalls are refused, but that of the last transfer, which no
-    message instructs. So all are kept by a chain of ties."""
+    """Accepted transfers, each recalled together with the next one. All recalls are refused, but that of the last
+    transfer, which no message instructs. So all are kept by a chain of ties."""
     found = []
     for i in range(many // 5):
         recalled = [samples.transaction(OrgnlTxId=f"T{i + place}", CxlId=f"R{i}") for place in (0, 1)]
-        found += [samples.instruction(MsgId=f"M{i}", TxId=f"T{i}"), samples.confirmation(MsgId=f"C{i}", OrgnlTxId=f"T{i}"),
-                  samples.recall(recalled, MsgId=f"K{i}"), samples.refusal(OrgnlCxlId=f"R{i}", MsgId=f"N{i}", OrgnlTxId=f"T{i}"),
+        found += [samples.instruction(MsgId=f"M{i}", TxId=f"T{i}"),
+                  samples.confirmation(MsgId=f"C{i}", OrgnlTxId=f"T{i}"),
+                  samples.recall(recalled, MsgId=f"K{i}"),
+                  samples.refusal(OrgnlCxlId=f"R{i}", MsgId=f"N{i}", OrgnlTxId=f"T{i}"),
                   samples.refusal(OrgnlCxlId=f"R{i - 1}", MsgId=f"L{i}", OrgnlTxId=f"T{i}")]
     return found[:4] + found[5:]
 
@@ -69,7 +72,8 @@ def equal_confirmations(many):
 
 def contradicted_identities(many):
     """Pairs of messages of one identity on one transfer."""
-    return accepted() + [samples.confirmation(status, MsgId=f"D{i}") for i in range(many // 2) for status in (samples.ACCEPTED, REFUSED)]
+    return accepted() + [samples.confirmation(status, MsgId=f"D{i}") for i in range(many // 2)
+                         for status in (samples.ACCEPTED, REFUSED)]
 
 
 def lines(found):
