@@ -4,7 +4,7 @@
 ghost use Rattle.std.specs.Prelude.{◌≡◌, None, false, length};
 ghost use Rattle.sct_embed.specs.Codes.{code_name, code_text};
 ghost use Rattle.sct_embed.specs.Outcomes.{refused_accept, refused_as, refused_lines, refused_take};
-ghost use Rattle.sct_embed.specs.Places.{Accepts, Asks, Copies, CopiesPart, CopiesReason, Counts, EndsAnswer, Evaluates, IsCalled, IsCopied, Opens, Restores, Takes, TakesLines};
+ghost use Rattle.sct_embed.specs.Places.{Accepts, Asks, Copies, CopiesPart, CopiesReason, Counts, EndsAnswer, Evaluates, IsCalled, IsCopied, Opens, Restores, Takes, TakesAs, TakesLines};
 ghost use Rattle.sct_embed.specs.declared.question.Question.TheVariants as question;
 ghost use Rattle.sct_version.specs.Numbers.{version_number};
 ghost use Rattle.sct_version.specs.declared.TheConstants.{VERSION};
@@ -58,6 +58,19 @@ pub extern "C" fn sct_raw_take(alloc: Global, site: &mut Place, json: &[u8]) -> 
     ensures { IsCalled refused_take (Takes json.now) site.old.handle.held result site.new.handle.held }
 {
     site.take(alloc, json)
+}
+
+/// Takes the message that one JSON object is, if it may be sent in the name of the banks that a text lists.
+#[unsafe(no_mangle)]
+pub extern "C" fn sct_raw_take_as(
+    alloc: Global,
+    site: &mut Place,
+    banks: &[u8],
+    json: &[u8],
+) -> TakeOutcome
+    ensures { IsCalled refused_take (TakesAs banks.now json.now) site.old.handle.held result site.new.handle.held }
+{
+    site.take_as(alloc, banks, json)
 }
 
 /// Takes the messages of a text, one on each line.
@@ -278,6 +291,70 @@ pub extern "C" fn sct_raw_closed_text(alloc: Global, site: &mut Place, day: &[u8
     ensures { IsCalled refused_as (Asks (question.Closed day.entry)) site.old.handle.held result site.new.handle.held }
 {
     site.ask(alloc, Question::Closed(day))
+}
+
+/// The lines of one transfer become the answer, as banks are shown them.
+#[unsafe(no_mangle)]
+pub extern "C" fn sct_raw_transfer_text_for(
+    alloc: Global,
+    site: &mut Place,
+    banks: &[u8],
+    bank: &[u8],
+    tx: &[u8],
+) -> CallOutcome
+    ensures { IsCalled refused_as (Asks (question.TransferFor banks.entry bank.entry tx.entry)) site.old.handle.held result site.new.handle.held }
+{
+    site.ask(alloc, Question::TransferFor { banks, bank, tx })
+}
+
+/// The messages on one transfer become the answer, as banks are shown them.
+#[unsafe(no_mangle)]
+pub extern "C" fn sct_raw_messages_text_for(
+    alloc: Global,
+    site: &mut Place,
+    banks: &[u8],
+    bank: &[u8],
+    tx: &[u8],
+) -> CallOutcome
+    ensures { IsCalled refused_as (Asks (question.MessagesFor banks.entry bank.entry tx.entry)) site.old.handle.held result site.new.handle.held }
+{
+    site.ask(alloc, Question::MessagesFor { banks, bank, tx })
+}
+
+/// The line of one of the banks becomes the answer, as the totals text has it.
+#[unsafe(no_mangle)]
+pub extern "C" fn sct_raw_bank_totals_for(
+    alloc: Global,
+    site: &mut Place,
+    banks: &[u8],
+    bank: &[u8],
+) -> CallOutcome
+    ensures { IsCalled refused_as (Asks (question.BankFor banks.entry bank.entry)) site.old.handle.held result site.new.handle.held }
+{
+    site.ask(alloc, Question::BankFor { banks, bank })
+}
+
+/// The report on a list of one of the banks for a settlement day becomes the answer, as banks are shown it.
+#[unsafe(no_mangle)]
+pub extern "C" fn sct_raw_report_for(
+    alloc: Global,
+    site: &mut Place,
+    banks: &[u8],
+    bank: &[u8],
+    day: &[u8],
+    list: &[u8],
+) -> CallOutcome
+    ensures { IsCalled refused_as (Asks (question.ReportFor banks.entry bank.entry day.entry list.entry)) site.old.handle.held result site.new.handle.held }
+{
+    site.ask(
+        alloc,
+        Question::ReportFor {
+            banks,
+            bank,
+            day,
+            list,
+        },
+    )
 }
 
 /// What changed since the call before becomes the answer.

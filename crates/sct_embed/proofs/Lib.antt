@@ -6,6 +6,7 @@ pub mod RowOfSite
 pub mod PlaceLemmas
 pub mod ReadingLemmas
 pub mod SetLemmas
+pub mod ShelfLemmas
 pub mod ShownLemmas
 pub mod TakingLemmas
 pub mod WatchLemmas

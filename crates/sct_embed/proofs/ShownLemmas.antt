@@ -11,6 +11,7 @@ use Rattle.sct_embed.specs.Showing.{IsShowing, IsShown, IsWatched}
 use Rattle.sct_embed.specs.declared.changes.Watch.{Watch}
 use Rattle.sct_embed.specs.declared.showing.Showing.{Showing}
 use Rattle.sct_digest.proofs.KeepingLemmas.{kept_before}
+use Rattle.sct_embed.proofs.ShelfLemmas.{shelf_before}
 use Rattle.sct_exchange.specs.Journals.{core_taking}
 
 shown_before : (k : ℕ) (es ds : List Placed) (v : MessageSet) → IsShown k es v → IsShown k (es ++ ds) v
@@ -32,6 +33,7 @@ showing_before s es ds was = record {
   shown = shown_before s.count es ds s.view was.shown;
   watched = watched_before s.watch s.count es ds was.shown.within was.watched;
   digests = kept_before s.digests es ds was.digests;
+  shelf = shelf_before s.shelf es ds was.shelf;
 }
 
 showing_by : (s : Showing) (core : Core) (m : Draft) (b : Bool) → is_repeat core m ≡ b → IsShowing s core.arrivals → IsShowing s (arrivals_taken core m)

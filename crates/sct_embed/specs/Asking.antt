@@ -7,6 +7,7 @@ use Rattle.sct_delta.specs.Entries.{Placed, messages_of}
 use Rattle.sct_site.specs.Cores.{Core}
 use Rattle.sct_digest.specs.Digests.{digests_text}
 use Rattle.sct_exchange.specs.Sites.{held_text}
+use Rattle.sct_embed.specs.ByBanks.{bank_answer_for, messages_answer_for, report_answer_for, transfer_answer_for}
 use Rattle.sct_embed.specs.Calls.{cut_above_answer, cut_answer, digest_answer, entries_answer}
 use Rattle.sct_embed.specs.Embeddings.{Embedding}
 use Rattle.sct_embed.specs.Questions.{bank_answer, changes_since, closed_answer, contradictions_text_of, kept_answer, messages_answer, report_answer, transfer_answer}
@@ -60,6 +61,13 @@ answer_to_question (question.Report bank day list) site = report_answer bank.now
 answer_to_question (question.Kept day) site = kept_answer day.now (messages_of site.core.arrivals)
 answer_to_question (question.Closed day) site = closed_answer day.now (messages_of site.core.arrivals)
 answer_to_question question.Changes site = Ok (changes_since site.watched site.core.arrivals)
+answer_to_question (question.TransferFor banks bank tx) site =
+    transfer_answer_for banks.now bank.now tx.now (messages_of site.core.arrivals)
+answer_to_question (question.MessagesFor banks bank tx) site =
+    messages_answer_for banks.now bank.now tx.now (messages_of site.core.arrivals)
+answer_to_question (question.BankFor banks bank) site = bank_answer_for banks.now bank.now (messages_of site.core.arrivals)
+answer_to_question (question.ReportFor banks bank day list) site =
+    report_answer_for banks.now bank.now day.now list.now (messages_of site.core.arrivals)
 
 -- how many arrivals the site had when its changes were asked for last, after a question that is answered
 abbrev pub watched_after_answer : Question → Embedding → Option ℕ

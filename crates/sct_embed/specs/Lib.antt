@@ -1,5 +1,6 @@
 -- The definitions of an embedded site.
 pub mod Asking
+pub mod ByBanks
 pub mod Calls
 pub mod Codes
 pub mod Counts
@@ -14,6 +15,8 @@ pub mod Questions
 pub mod Reading
 pub mod Reasons
 pub mod Restoring
+pub mod Sending
+pub mod Shelves
 pub mod Showing
 pub mod Taking
 pub mod Values

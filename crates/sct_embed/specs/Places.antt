@@ -4,6 +4,7 @@ use Rattle.std.specs.Prelude.{◌≡◌, ◌≤◌, ◌⊎◌, ℕ, List, [], Op
 use Rattle.std.specs.Result.{result_err}
 use Rattle.sct_delta.specs.declared.fault.DeltaFault.TheVariants as delta
 use Rattle.sct_lines.specs.Lines.{messages_read, refusals_told, told_text_of}
+use Rattle.sct_rights.specs.Listing.{banks_in}
 use Rattle.sct_site.specs.Cores.{is_open}
 use Rattle.sct_site.specs.declared.answers.Took.{Took}
 use Rattle.sct_site.specs.declared.answers.Accepted.{Accepted}
@@ -15,6 +16,7 @@ use Rattle.sct_embed.specs.Outcomes.{accept_as, done_as, refused_as, take_as, ta
 use Rattle.sct_embed.specs.Questions.{Answers}
 use Rattle.sct_embed.specs.Reasons.{why_text}
 use Rattle.sct_embed.specs.Restoring.{core_restored, restored_text}
+use Rattle.sct_embed.specs.Sending.{IsTakenFor, RefusesFor}
 use Rattle.sct_embed.specs.Taking.{ArePartlyTaken, AreTaken}
 use Rattle.sct_embed.specs.declared.faults.EmbedFault.{EmbedFault}
 use Rattle.sct_embed.specs.declared.faults.EmbedFault.TheVariants as fault
@@ -93,6 +95,17 @@ pub record Takes (json : List ℕ) (before : KeptSite) (outcome : TakeOutcome) (
   pub why : later.why ≡ result_err done
   pub taken : IfOk done (λ took. IsTaken before.site.core json took later.site.core)
   pub err : IfErr done (RefusesMessage json)
+  pub answer : later.site.answer ≡ before.site.answer
+  pub watched : later.site.watched ≡ before.site.watched
+  pub unchanged : OnErr done (later.site ≡ before.site)
+
+-- The site took the message, which may be sent in the name of the banks, or refused it and is as it was.
+pub record TakesAs (banks json : List ℕ) (before : KeptSite) (outcome : TakeOutcome) (later : KeptSite) : Type 0 where
+  pub done : Result Took EmbedFault
+  pub told : outcome ≡ take_as done
+  pub why : later.why ≡ result_err done
+  pub taken : IfOk done (λ took. IsTakenFor before.site.core (banks_in banks) json took later.site.core)
+  pub err : IfErr done (RefusesFor before.site.core (banks_in banks) json)
   pub answer : later.site.answer ≡ before.site.answer
   pub watched : later.site.watched ≡ before.site.watched
   pub unchanged : OnErr done (later.site ≡ before.site)

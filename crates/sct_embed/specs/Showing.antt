@@ -1,4 +1,5 @@
--- A view that shows the first arrivals of a site, the transfers that changed since its changes were asked for, and digests.
+-- A view that shows the first arrivals of a site, the transfers that changed since its changes were asked for, digests, and what is
+-- filed for banks.
 -- Serves proofs.
 use Rattle.std.specs.Prelude.{◌≡◌, ◌≤◌, ◌++◌, ℕ, List, [], Option, Some, None, length, take, option_map, flat_map, ⊤}
 use Rattle.sct_message.specs.Ascending.{ascending}
@@ -8,6 +9,7 @@ use Rattle.sct_message.specs.declared.keys.TransferKey.{TransferKey}
 use Rattle.sct_delta.specs.Entries.{Placed, messages_of}
 use Rattle.sct_view.specs.Touched.{touched_in}
 use Rattle.sct_digest.specs.Keeping.{AreKept}
+use Rattle.sct_embed.specs.Shelves.{IsShelf}
 use Rattle.sct_embed.specs.Questions.{transfer_line}
 use Rattle.sct_embed.specs.declared.changes.Watch.{Watch}
 use Rattle.sct_embed.specs.declared.showing.Showing.{Showing}
@@ -34,6 +36,7 @@ pub record IsShowing (showing : Showing) (arrivals : List Placed) : Type 0 where
   pub shown : IsShown showing.count arrivals showing.view
   pub watched : IsWatched showing.watch showing.count arrivals
   pub digests : AreKept showing.digests arrivals
+  pub shelf : IsShelf showing.shelf arrivals
 
 -- The watch after a view that shows `held` is joined with a batch. Before changes were asked for, nothing is kept.
 abbrev pub IsLater : Option Watch → MessageSet → MessageSet → Option Watch → Type 0

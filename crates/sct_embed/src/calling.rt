@@ -2,7 +2,7 @@
 
 ghost use Rattle.std.specs.Prelude.{◌≡◌, None, false};
 ghost use Rattle.sct_embed.specs.Outcomes.{refused_accept, refused_as, refused_lines, refused_take};
-ghost use Rattle.sct_embed.specs.Places.{Accepts, Counts, IsCalled, IsFilledWith, Opens, Restores, Takes, TakesLines};
+ghost use Rattle.sct_embed.specs.Places.{Accepts, Counts, IsCalled, IsFilledWith, Opens, Restores, Takes, TakesAs, TakesLines};
 
 use crate::embedded_site::EmbeddedSite;
 use crate::faults::EmbedFault;
@@ -77,6 +77,22 @@ impl Place {
             return TakeOutcome::refused(&EmbedFault::Empty);
         };
         let done = kept.site.take(json);
+        let outcome = TakeOutcome::of(&done);
+        kept.keep_why(done);
+        self.put_in(kept);
+        outcome
+    }
+
+    /// Takes the message that one JSON object is, if it may be sent in the name of the banks that a text lists.
+    /// Refusals: 31 to 38, 46, 56, `Memory` (65), `Empty` (70), `BadArgument` (73) with 1 for the banks, `NotSender` (80),
+    /// `NotOriginator` (81) with the transaction, `NotBeneficiary` (82), `Waits` (83).
+    pub fn take_as(&mut self, alloc: Global, banks: &[u8], json: &[u8]) -> TakeOutcome
+        ensures { IsCalled refused_take (TakesAs banks.now json.now) self.old.handle.held result self.new.handle.held }
+    {
+        let Some(mut kept) = self.take_out(alloc) else {
+            return TakeOutcome::refused(&EmbedFault::Empty);
+        };
+        let done = kept.site.take_for(alloc, banks, json);
         let outcome = TakeOutcome::of(&done);
         kept.keep_why(done);
         self.put_in(kept);

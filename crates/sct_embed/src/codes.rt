@@ -33,6 +33,11 @@ fn name_of(code: u8) -> &'static str
         71 => "Full",
         72 => "BadVector",
         73 => "BadArgument",
+        79 => "NotYours",
+        80 => "NotSender",
+        81 => "NotOriginator",
+        82 => "NotBeneficiary",
+        83 => "Waits",
         _ => "",
     }
 }
@@ -67,6 +72,12 @@ fn text_of(code: u8) -> &'static str
         72 => "the text is not a version vector",
         73 =>
             "a bank, an identification, a day, an origin, a count or a size is not valid: the place is that of the argument, from 1",
+        79 => "the bank is none of the banks that ask",
+        80 => "the sender of the message is none of the banks in whose name it is sent",
+        81 => "the originator bank of the transaction at the place is none of the banks",
+        82 => "the beneficiary bank of each instruction on the transfer is none of the banks",
+        83 =>
+            "no instruction on the transfer is held yet; the call can be made again when there is one",
         _ => "",
     }
 }

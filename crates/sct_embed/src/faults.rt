@@ -1,12 +1,13 @@
 //! Why a call of an embedded site is refused.
 
 ghost use Rattle.std.specs.Prelude.{◌≡◌};
-ghost use Rattle.sct_embed.specs.Faults.{embed_fault_number, embed_fault_of_delta, embed_fault_of_json, embed_fault_of_list, embed_fault_place};
+ghost use Rattle.sct_embed.specs.Faults.{embed_fault_number, embed_fault_of_delta, embed_fault_of_json, embed_fault_of_list, embed_fault_place, permission_number};
 ghost use Rattle.sct_embed.specs.declared.faults.EmbedFault.TheVariants as fault;
 
 use sct_delta::DeltaFault;
 use sct_json::JsonFault;
 use sct_reconcile::ReconcileFault;
+use sct_rights::Permission;
 use std::alloc::AllocError;
 use thiserror::Error;
 
@@ -38,6 +39,25 @@ pub enum EmbedFault {
     /// it is, from 1.
     #[error("argument {0} is not valid")]
     BadArgument(u64),
+    /// 79: the bank is none of the banks for which the question is asked.
+    #[error("the bank is none of the banks that ask")]
+    NotYours,
+    /// 80 to 83: the message may not be sent in the name of the banks, or not yet.
+    #[error("the message may not be sent in the name of the banks")]
+    Withheld(Permission),
+}
+
+// The number of why a message may not be sent: 80 to 83. 0 if it may.
+fn permission_number(permission: &Permission) -> u8
+    ensures { result ≡ permission_number permission.now }
+{
+    match permission {
+        Permission::Allowed => 0,
+        Permission::NotSender => 80,
+        Permission::NotOriginator(_) => 81,
+        Permission::NotBeneficiary => 82,
+        Permission::Waits(_) => 83,
+    }
 }
 
 impl EmbedFault {
@@ -54,10 +74,12 @@ impl EmbedFault {
             EmbedFault::Full => 71,
             EmbedFault::BadVector => 72,
             EmbedFault::BadArgument(_) => 73,
+            EmbedFault::NotYours => 79,
+            EmbedFault::Withheld(permission) => permission_number(permission),
         }
     }
 
-    /// Where the fault is, from 1: the line of a delta text (45), the transaction of a message (46, 56), the record of a list
+    /// Where the fault is, from 1: the line of a delta text (45), the transaction of a message (46, 56, 81), the record of a list
     /// (48) or the argument of the call (73). 0 for every other fault.
     pub fn place(&self) -> u64
         ensures { result ≡ embed_fault_place self.now }
@@ -68,6 +90,7 @@ impl EmbedFault {
             EmbedFault::Delta(DeltaFault::BadDelta(line)) => *line,
             EmbedFault::BadList(record) => *record,
             EmbedFault::BadArgument(place) => *place,
+            EmbedFault::Withheld(Permission::NotOriginator(place)) => *place as u64,
             _ => 0,
         }
     }

@@ -1,13 +1,15 @@
 //! A site as a place keeps it, with the reason why its last call was refused.
 
-ghost use Rattle.std.specs.Prelude.{◌≡◌, ◌++◌, IfOk, string_bytes};
+ghost use Rattle.std.specs.Prelude.{◌≡◌, ◌++◌, IfOk, OnOk, codes, string_bytes};
 ghost use Rattle.std.specs.Result.{result_err};
-ghost use Rattle.sct_embed.specs.Reasons.{fault_text, why_text};
+ghost use Rattle.sct_embed.specs.Reasons.{fault_text, transfer_words, why_text, withheld_text};
 
 use crate::embedded_site::EmbeddedSite;
 use crate::faults::EmbedFault;
 use sct_exchange::push_refusal;
 use sct_lines::push_json_fault;
+use sct_message::TransferKey;
+use sct_rights::Permission;
 use std::alloc::{AllocError, Global};
 use std::fmt::Write;
 
@@ -16,6 +18,31 @@ use std::fmt::Write;
 pub struct KeptSite {
     pub(crate) site: EmbeddedSite,
     pub(crate) why: Option<EmbedFault>,
+}
+
+// Appends that a message waits for an instruction, and on which transfer.
+fn push_waits(text: &mut String, transfer: &TransferKey) -> Result<(), AllocError>
+    ensures { OnOk result (string_bytes text.new ≡ string_bytes text.old ++ (codes "83 " ++ transfer_words transfer.now)) }
+{
+    text.push_str("83 ")?;
+    text.push_str(transfer.debtor_agent.text())?;
+    text.push_str(" ")?;
+    text.push_str(transfer.tx.text())?;
+    Ok(())
+}
+
+// Appends why a message may not be sent.
+#[tactic(auto, unfolding(crate::specs::Reasons::withheld_text))]
+fn push_withheld(text: &mut String, permission: &Permission) -> Result<(), AllocError>
+    ensures { OnOk result (string_bytes text.new ≡ string_bytes text.old ++ withheld_text permission.now) }
+{
+    match permission {
+        Permission::Allowed => Ok(()),
+        Permission::NotSender => text.push_str("80"),
+        Permission::NotOriginator(place) => write!(text, "81 {place}"),
+        Permission::NotBeneficiary => text.push_str("82"),
+        Permission::Waits(transfer) => push_waits(text, transfer),
+    }
 }
 
 // Appends the number of a fault and its fields, with a space between each two, as the program prints them.
@@ -32,6 +59,8 @@ fn push_fault(alloc: Global, text: &mut String, reason: &EmbedFault) -> Result<(
         EmbedFault::Full => text.push_str("71"),
         EmbedFault::BadVector => text.push_str("72"),
         EmbedFault::BadArgument(place) => write!(text, "73 {place}"),
+        EmbedFault::NotYours => text.push_str("79"),
+        EmbedFault::Withheld(permission) => push_withheld(text, permission),
     }
 }
 

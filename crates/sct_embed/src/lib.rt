@@ -9,6 +9,7 @@
 
 mod arguments;
 mod asking;
+mod by_banks;
 mod calling;
 mod changes;
 mod codes;
@@ -22,6 +23,8 @@ mod place;
 mod question;
 mod questions;
 mod reading;
+mod sending;
+mod shelf;
 mod showing;
 mod taking;
 mod texts;

@@ -94,4 +94,48 @@ pub enum Question<'a> {
     /// in what is new and in the transfers that changed. From the first call on, each question also keeps the names of the
     /// transfers that it finds changed, until this one.
     Changes,
+    /// The lines of one transfer for banks, a text such as `BANKDEFF,BANQFRPP`: as [`Question::Transfer`] has them if it is theirs, and
+    /// those of a transfer without messages if not. What is new is evaluated and filed; then O(messages on the transfer).
+    /// Refusal: `BadArgument` (73), 1 for the banks, 2 for the bank and 3 for the identification.
+    TransferFor {
+        /// The banks for which it is asked.
+        banks: &'a [u8],
+        /// The originator bank.
+        bank: &'a [u8],
+        /// The identification.
+        tx: &'a [u8],
+    },
+    /// The messages on one transfer for banks, as they are shown: none if it is not theirs, and of a recall message of others the
+    /// transactions on transfers of theirs. What is new is evaluated and filed; then O(n log n) in the transactions of these
+    /// messages. Refusal: `BadArgument` (73), 1 for the banks, 2 for the bank and 3 for the identification.
+    MessagesFor {
+        /// The banks for which it is asked.
+        banks: &'a [u8],
+        /// The originator bank.
+        bank: &'a [u8],
+        /// The identification.
+        tx: &'a [u8],
+    },
+    /// The line of one of the banks, as [`Question::Bank`] has it.
+    /// Refusals: `BadArgument` (73), 1 for the banks and 2 for the bank; `NotYours` (79) if the bank is none of the banks.
+    BankFor {
+        /// The banks for which it is asked.
+        banks: &'a [u8],
+        /// The bank.
+        bank: &'a [u8],
+    },
+    /// The report on a list of one of the banks: the rows of [`Question::Report`], but of a transfer that is not theirs what a row on
+    /// no message is. What is new is evaluated and filed; then O(n log n) in the rows of the list and the messages on transfers of the bank.
+    /// Refusals: `BadArgument` (73), 1 for the banks, 2 for the bank and 3 for the day; `NotYours` (79); `BadList` (48) with the first
+    /// wrong record.
+    ReportFor {
+        /// The banks for which it is asked.
+        banks: &'a [u8],
+        /// The bank.
+        bank: &'a [u8],
+        /// The settlement day.
+        day: &'a [u8],
+        /// The list.
+        list: &'a [u8],
+    },
 }

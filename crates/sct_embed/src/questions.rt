@@ -58,6 +58,15 @@ impl EmbeddedSite {
             Question::Kept(day) => self.kept_text(day),
             Question::Closed(day) => self.closed_text(day),
             Question::Changes => Ok(self.changes_text()?),
+            Question::TransferFor { banks, bank, tx } => self.transfer_text_for(banks, bank, tx),
+            Question::MessagesFor { banks, bank, tx } => self.messages_text_for(banks, bank, tx),
+            Question::BankFor { banks, bank } => self.bank_totals_for(banks, bank),
+            Question::ReportFor {
+                banks,
+                bank,
+                day,
+                list,
+            } => self.report_for(banks, bank, day, list),
         }
     }
 

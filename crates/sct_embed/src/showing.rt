@@ -1,13 +1,16 @@
-//! What follows the arrivals of a site: a view, and digests.
+//! What follows the arrivals of a site: a view, digests, and what is filed for banks.
 
 ghost use Rattle.std.specs.FinSet as set;
 ghost use Rattle.std.specs.Prelude.{◌≡◌, [], None, length, OnErr, OnOk};
 ghost use Rattle.sct_delta.specs.Entries.{messages_of};
 ghost use Rattle.sct_message.specs.Sets.{messages_in};
 ghost use Rattle.sct_set.specs.Contents.{contents_of};
+ghost use Rattle.sct_view.specs.Filed.{IsFiled};
+ghost use Rattle.sct_rights.specs.ByBanks.{IsFiledForBanks};
 ghost use Rattle.sct_embed.specs.Showing.{IsShowing, watched_by};
 
 use crate::changes::{Watch, watch_after};
+use crate::shelf::Shelf;
 use sct_delta::{Entry, messages_in};
 use sct_digest::Digests;
 use sct_message::Message;
@@ -16,7 +19,8 @@ use sct_view::View;
 use std::alloc::{AllocError, Global};
 use std::sync::Arc;
 
-/// A view of the first arrivals of a site, what changed since its changes were asked for, and digests of its entries.
+/// A view of the first arrivals of a site, what changed since its changes were asked for, digests of its entries, and those that are
+/// filed for banks.
 #[derive(Drop)]
 pub(crate) struct Showing {
     pub(crate) view: View,
@@ -26,6 +30,8 @@ pub(crate) struct Showing {
     pub(crate) watch: Option<Watch>,
     /// The digests that were worked out.
     pub(crate) digests: Digests,
+    /// What is filed for banks.
+    pub(crate) shelf: Shelf,
 }
 
 // Adds messages to a view of so many arrivals. The view of the first ones is built at once: that takes less than to evaluate a batch.
@@ -51,7 +57,7 @@ fn apply(
 }
 
 impl Showing {
-    /// The view of no arrivals. No digest is worked out.
+    /// The view of no arrivals. No digest is worked out, and nothing is filed.
     pub(crate) fn new(alloc: Global) -> Showing
         ensures shown { IsShowing result [] }
         ensures unwatched { result.watch ≡ None }
@@ -61,6 +67,7 @@ impl Showing {
             count: 0,
             watch: None,
             digests: Digests::new(alloc),
+            shelf: Shelf::new(alloc),
         }
     }
 
@@ -82,5 +89,33 @@ impl Showing {
         self.watch = watch;
         self.count = arrivals.len();
         Ok(())
+    }
+
+    /// Has all arrivals filed by transfer, as it is known who may send a message. O(transactions of the messages that are new).
+    pub(crate) fn file_all(&mut self, alloc: Global, arrivals: &[Entry]) -> Result<(), AllocError>
+        requires { IsShowing self.old arrivals.now }
+        ensures shown { IsShowing self.new arrivals.now }
+        ensures watched { watched_by self.new.watch ≡ watched_by self.old.watch }
+        ensures filed { OnOk result (IsFiled (messages_of arrivals.now) self.new.shelf.by_transfer) }
+    {
+        self.shelf.file_arrivals(alloc, arrivals)
+    }
+
+    /// Has the view show all arrivals, and all of them filed, as questions of banks need it. O(messages that are new, and those of
+    /// the transfers that they touch).
+    pub(crate) fn show_for_banks(
+        &mut self,
+        alloc: Global,
+        arrivals: &[Entry],
+    ) -> Result<(), AllocError>
+        requires { IsShowing self.old arrivals.now }
+        ensures shown { IsShowing self.new arrivals.now }
+        ensures watched { watched_by self.new.watch ≡ watched_by self.old.watch }
+        ensures view { OnOk result (self.new.view ≡ messages_of arrivals.now) }
+        ensures filed { OnOk result (IsFiled self.new.view self.new.shelf.by_transfer) }
+        ensures by_bank { OnOk result (IsFiledForBanks self.new.view self.new.shelf.by_bank) }
+    {
+        self.show_all(alloc, arrivals)?;
+        self.shelf.file_arrivals(alloc, arrivals)
     }
 }

@@ -15,8 +15,9 @@ use Rattle.sct_exchange.specs.Sites.{cut_text, held_text}
 use Rattle.sct_embed.specs.Calls.{cut_answer, cut_for, digest_by_arguments, digest_if_held, entries_by_arguments, text_size_named}
 use Rattle.sct_embed.specs.Questions.{bank_answer, changes_since, contradictions_text_of, messages_answer, transfer_answer}
 use Rattle.sct_embed.specs.declared.faults.EmbedFault.{EmbedFault}
-use Rattle.sct_requests.specs.Questions.{about, answer_about, answer_asked, answer_in, answer_named, answered, digest_in_words, digest_of_words, entries_about, entries_in_words, entries_of_words, one_word, report_asked, two_parts}
+use Rattle.sct_requests.specs.Questions.{about, answer_about, answer_asked, answer_for_banks, answer_in, answer_named, answered, digest_in_words, digest_of_words, entries_about, entries_in_words, entries_of_words, report_asked}
 use Rattle.sct_requests.specs.WatchedSites.{WatchedSite}
+use Rattle.sct_requests.specs.Words.{one_word, two_parts}
 use Rattle.sct_requests.specs.declared.questions.QuestionFault.{QuestionFault}
 use Rattle.sct_requests.specs.declared.questions.QuestionFault.TheVariants as fault
 
@@ -44,6 +45,7 @@ about_by cut entries digest held name rest =
     else if is_text name (codes "entries") then entries (two_parts rest)
     else if is_text name (codes "digest") then digest (two_parts rest)
     else if is_text name (codes "report") then report_asked held (two_parts rest)
+    else if is_text name (codes "of") then answer_for_banks held (two_parts rest)
     else Err fault.NoQuestion
 
 module _ (one other : WatchedSite) (messages : messages_of one.core.arrivals ≡ messages_of other.core.arrivals) (vector : held_text one.core.arrivals ≡ held_text other.core.arrivals)

@@ -16,7 +16,8 @@ use Rattle.sct_exchange.specs.Sites.{cut_text}
 use Rattle.sct_exchange.specs.Ways.{IsAmong}
 use Rattle.sct_journal.specs.Kept.{recorded}
 use Rattle.sct_embed.specs.Calls.{cut_answer, cut_for, entries_by_arguments, text_size_named}
-use Rattle.sct_requests.specs.Questions.{about, answer_asked, answer_in, answered, entries_about, entries_in_words, entries_of_words, one_word, two_parts, two_parts_at}
+use Rattle.sct_requests.specs.Questions.{about, answer_asked, answer_in, answered, entries_about, entries_in_words, entries_of_words}
+use Rattle.sct_requests.specs.Words.{one_word, two_parts, two_parts_at}
 use Rattle.sct_requests.specs.WatchedSites.{WatchedSite}
 use Rattle.sct_requests.specs.Steps.{brings, brought, core_after, core_given, core_kept, is_delta_line, is_question_line, text_in}
 use Rattle.sct_requests.proofs.StepLemmas.{brought_join}

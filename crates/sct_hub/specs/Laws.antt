@@ -17,7 +17,8 @@ use Rattle.sct_exchange.specs.Rounds.{File}
 use Rattle.sct_exchange.specs.Ways.{IsAmong}
 use Rattle.sct_journal.specs.Kept.{AreLines, recorded}
 use Rattle.sct_requests.specs.Questions.{answer_asked}
-use Rattle.sct_requests.specs.Steps.{AreKept, answer_to, brought, core_after, core_given, core_kept, is_delta_line, text_in}
+use Rattle.sct_requests.specs.Grants.{answer_for, core_after_requests, core_requested, granted}
+use Rattle.sct_requests.specs.Steps.{AreKept, answer_to, brought, core_after, core_kept, is_delta_line, text_in}
 use Rattle.sct_requests.specs.declared.steps.Reply.{Reply}
 use Rattle.sct_requests.specs.declared.steps.Reply.TheVariants as answer
 use Rattle.sct_hub.specs.Hubs.{AreTheirOrigins, Event, IsHub, IsTextOfHub, MayBegin, World, after, arrivals_in, at_first, own_journal, site_in, texts_given}
@@ -120,17 +121,18 @@ acknowledged_by (answer.Took took) line = messages_of_line line
 acknowledged_by (answer.Accepted fresh) line = messages_of_line line
 acknowledged_by other line = []
 
--- the messages of the lines that a site is given, as far as it answers that it has them
+-- the messages of requests to a site, as far as it answers that it has them; of a request in the name of banks those of its line
 abbrev pub acknowledged : Core → List (List ℕ) → List Draft
 acknowledged core [] = []
-acknowledged core (line ∷ lines) = acknowledged_by (answer_to core line) line ++ acknowledged (core_given core line) lines
+acknowledged core (request ∷ requests) =
+    acknowledged_by (answer_for core request) (granted core request) ++ acknowledged (core_requested core request) requests
 
--- After lines that it is given, a site holds exactly what it held and what it acknowledged.
+-- After requests a site holds exactly what it held and what it acknowledged.
 abbrev pub KeepersHoldWhatTheyAnswer : Type 0
 KeepersHoldWhatTheyAnswer =
-    (core : Core) (lines : List (List ℕ))
-    → messages_of (core_after core lines).arrivals
-    ≡ set.union (messages_of core.arrivals) (set.from_list (acknowledged core lines))
+    (core : Core) (requests : List (List ℕ))
+    → messages_of (core_after_requests core requests).arrivals
+    ≡ set.union (messages_of core.arrivals) (set.from_list (acknowledged core requests))
 
 -- ---- what lasts
 

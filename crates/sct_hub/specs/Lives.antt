@@ -9,7 +9,9 @@ use Rattle.sct_exchange.specs.Sites.{cut_text}
 use Rattle.sct_exchange.specs.Ways.{IsAmong}
 use Rattle.sct_embed.specs.Calls.{text_size_named}
 use Rattle.sct_journal.specs.Kept.{IsLine, recorded}
-use Rattle.sct_requests.specs.Questions.{answer_asked, one_word, two_parts}
+use Rattle.sct_requests.specs.Grants.{grants}
+use Rattle.sct_requests.specs.Questions.{answer_asked}
+use Rattle.sct_requests.specs.Words.{one_word, two_parts}
 use Rattle.sct_requests.specs.WatchedSites.{WatchedSite}
 use Rattle.sct_requests.specs.Steps.{brings, brought, core_after, core_kept, is_delta_line, text_in}
 use Rattle.sct_exchange.specs.Entries.{entries_text}
@@ -173,11 +175,11 @@ AreServed sites site file (life ∷ lives) =
     LifeLeaves (watched_site_kept site sites (recorded file)) (recorded file) life.unread life.unread_now life.held life.held_now life.left
     × AreServed sites site life.left lives
 
--- the lives that they are: each with the lines that last
+-- the lives that they are: each with the lines that its site was given for the requests that last
 abbrev pub lives_served : (sites site : ℕ) (file : List ℕ) (served : List ServedLife) → AreServed sites site file served → List Life
 lives_served sites site file [] leaves = []
 lives_served sites site file (life ∷ lives) leaves =
-    record { lasting = leaves.0.lasting; left = life.left } ∷ lives_served sites site life.left lives leaves.1
+    record { lasting = grants (core_kept site sites (recorded file)) leaves.0.lasting; left = life.left } ∷ lives_served sites site life.left lives leaves.1
 
 -- So lives of the program are lives as the laws have them.
 abbrev pub ServedLivesAreLives : Type 0

@@ -70,8 +70,8 @@ pub fn keepers_hold_exactly()
     messages_are_read_again();
 }
 
-/// After lines that it is given a site holds exactly the messages that it held and those that it answered for: each that it
-/// took or held already, and those of each delta that it accepted.
+/// After requests a site holds exactly the messages that it held and those that it answered for: each that it took or held already, in
+/// whoever's name, and those of each delta that it accepted.
 pub fn keepers_hold_what_they_answer()
     ensures { KeepersHoldWhatTheyAnswer }
 {}

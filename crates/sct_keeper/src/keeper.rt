@@ -10,7 +10,8 @@ ghost use Rattle.sct_journal.specs.declared.error.JournalError.TheVariants as jo
 ghost use Rattle.sct_journal.specs.declared.front.Front.TheVariants as front;
 ghost use Rattle.sct_keeper.specs.Keepers.{EndsOpening, EndsRound, IsForeign, IsFull, IsKeeper, IsOfMemory, IsRecordedBeforeOrAfter, IsUntouched, answer_of_keeper, core_of_keeper, header, keeper_disk, watched_site_of};
 ghost use Rattle.sct_requests.specs.Questions.{Says, answer_asked, watched_after};
-ghost use Rattle.sct_requests.specs.Steps.{answers_to, brought, core_after, core_kept};
+ghost use Rattle.sct_requests.specs.Grants.{answers_for, brought_by, core_after_requests};
+ghost use Rattle.sct_requests.specs.Steps.{core_kept};
 
 use crate::fault::KeeperError;
 use crate::opening::{open_journal, open_site};
@@ -113,8 +114,8 @@ impl<D: Disk> Keeper<D> {
 
     /// Answers a question about what the site holds: `vector`, `cut HAVE`, `entries ORIGIN ABOVE MOST`, `digest ORIGIN COUNT`,
     /// `digests`, `status`, `totals`, `archive`, `contradictions`, `evaluate`, `changes`, `transfer BANK TX`, `messages BANK TX`,
-    /// `bank BANK` or `report BANK DAY LIST`, in which tabs are the line feeds of the list. [`Keeper::text`] is then the text that
-    /// was asked for. The cost is that of the [`Question`] of that name. The question may be refused. The error is that it is out
+    /// `bank BANK`, `report BANK DAY LIST`, in which tabs are the line feeds of the list, or `of BANKS` and one of the last four.
+    /// [`Keeper::text`] is then the text that was asked for. The cost is that of the [`Question`] of that name. The question may be refused. The error is that it is out
     /// of memory.
     pub fn ask(&mut self, alloc: Global, question: &[u8]) -> Result<AskResult, AllocError>
         requires keeper { IsKeeper D.Disk.seen D.Disk.may_leave D.Disk.is_usable D.Disk.is_clean self.old }
@@ -127,8 +128,8 @@ impl<D: Disk> Keeper<D> {
         ask(alloc, &mut self.site, question)
     }
 
-    /// The site is given the lines of a text that line feeds end, and each that brings it an entry is written to the journal,
-    /// all of them in one batch. At `Ok` they are on the disk, and only then are there answers. At `Err`, open the keeper
+    /// The site is given the requests of a text that line feeds end, and the line of each that brings it an entry is written to the
+    /// journal, all of them in one batch. At `Ok` they are on the disk, and only then are there answers. At `Err`, open the keeper
     /// again:
     /// - `Memory` (65): nothing was written;
     /// - `Disk` (78): a call of the disk failed;
@@ -136,16 +137,16 @@ impl<D: Disk> Keeper<D> {
     pub fn round(&mut self, alloc: Global, text: &[u8]) -> Result<Vec<Reply>, KeeperError>
         requires keeper { IsKeeper D.Disk.seen D.Disk.may_leave D.Disk.is_usable D.Disk.is_clean self.old }
 
-        ensures answers { IfOk result (λ answers. answers.items ≡ answers_to (core_of_keeper self.old) (ended_lines text.now)) }
-        ensures site { OnOk result (core_of_keeper self.new ≡ core_after (core_of_keeper self.old) (ended_lines text.now)) }
+        ensures answers { IfOk result (λ answers. answers.items ≡ answers_for (core_of_keeper self.old) (ended_lines text.now)) }
+        ensures site { OnOk result (core_of_keeper self.new ≡ core_after_requests (core_of_keeper self.old) (ended_lines text.now)) }
         ensures watched { (watched_site_of self.new).watched ≡ (watched_site_of self.old).watched }
         ensures keeper { OnOk result (IsKeeper D.Disk.seen D.Disk.may_leave D.Disk.is_usable D.Disk.is_clean self.new) }
         ensures acknowledged { IsTrue (D.Disk.is_clean (keeper_disk self.old)) → OnOk result (recorded (D.Disk.seen (keeper_disk self.new))
-            ≡ recorded (D.Disk.seen (keeper_disk self.old)) ++ brought (core_of_keeper self.old) (ended_lines text.now)) }
+            ≡ recorded (D.Disk.seen (keeper_disk self.old)) ++ brought_by (core_of_keeper self.old) (ended_lines text.now)) }
 
         // A crash at any moment of the call leaves the lines from before it, with all that the round brings or with none.
         ensures crash { IsTrue (D.Disk.is_clean (keeper_disk self.old)) → (c : List ℕ) → D.Disk.may_leave (keeper_disk self.new) c
-            → IsRecordedBeforeOrAfter (recorded (D.Disk.seen (keeper_disk self.old))) (brought (core_of_keeper self.old) (ended_lines text.now)) c }
+            → IsRecordedBeforeOrAfter (recorded (D.Disk.seen (keeper_disk self.old))) (brought_by (core_of_keeper self.old) (ended_lines text.now)) c }
         ensures clean { D.Disk.is_clean (keeper_disk self.new) ≡ D.Disk.is_clean (keeper_disk self.old) }
         ensures failed { IfErr result (λ e. e ≡ error.Journal journal.Disk → MoreFaults (D.Disk.faults (keeper_disk self.old)) (D.Disk.faults (keeper_disk self.new))) }
         // Without memory, and if the file cannot grow, nothing was written.

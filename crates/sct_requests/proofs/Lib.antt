@@ -1,2 +1,4 @@
 pub mod BringLemmas
+pub mod GrantLemmas
+pub mod LeakLemmas
 pub mod StepLemmas

@@ -1,40 +1,25 @@
 -- The questions of a keeper, each a line that begins with `? `, and their answers. Read by an auditor.
-use Rattle.std.specs.Prelude.{ℕ, ◌≡◌, ◌+◌, List, [], codes, drop, take, length, position, Option, None, Some, Result, Ok, Err, if◌then◌else◌, option_and_then, ⊤}
+use Rattle.std.specs.Prelude.{ℕ, ◌≡◌, List, [], codes, drop, length, Option, None, Some, Result, Ok, Err, if◌then◌else◌, option_and_then, ⊤}
 use Rattle.sct_element.specs.Text.{is_text}
 use Rattle.sct_message.specs.Sets.{MessageSet}
 use Rattle.sct_set.specs.Archive.{archive_text_of}
 use Rattle.sct_view.specs.StatusText.{status_text_of}
 use Rattle.sct_view.specs.TotalsText.{totals_text_of}
 use Rattle.sct_delta.specs.Entries.{Placed, messages_of}
-use Rattle.sct_delta.specs.TextLines.{is_space, number_in}
+use Rattle.sct_delta.specs.TextLines.{number_in}
 use Rattle.sct_delta.specs.VectorText.{origin_of_text}
 use Rattle.sct_exchange.specs.Sites.{held_text}
 use Rattle.sct_digest.specs.Digests.{digests_text}
+use Rattle.sct_embed.specs.ByBanks.{bank_answer_for, messages_answer_for, report_answer_for, transfer_answer_for}
 use Rattle.sct_embed.specs.Calls.{cut_answer, digest_by_arguments, entries_by_arguments, text_size_named}
 use Rattle.sct_embed.specs.Questions.{bank_answer, changes_since, contradictions_text_of, messages_answer, report_answer, transfer_answer}
 use Rattle.sct_embed.specs.declared.faults.EmbedFault.{EmbedFault}
 use Rattle.sct_requests.specs.WatchedSites.{WatchedSite}
-use Rattle.sct_requests.specs.Steps.{core_given, is_question_line, with_feeds}
+use Rattle.sct_requests.specs.Grants.{core_requested}
+use Rattle.sct_requests.specs.Steps.{is_question_line, with_feeds}
+use Rattle.sct_requests.specs.Words.{one_word, two_parts}
 use Rattle.sct_requests.specs.declared.questions.QuestionFault.{QuestionFault}
 use Rattle.sct_requests.specs.declared.questions.QuestionFault.TheVariants as fault
-
--- ---- words
-
--- the text, if it has no space
-abbrev pub one_word_at : List ℕ → Option ℕ → Option (List ℕ)
-one_word_at text None = Some text
-one_word_at text (Some place) = None
-
-abbrev pub one_word : List ℕ → Option (List ℕ)
-one_word text = one_word_at text (position is_space text)
-
--- the text up to its first space, and what comes after that
-abbrev pub two_parts_at : List ℕ → Option ℕ → Option (List ℕ × List ℕ)
-two_parts_at text None = None
-two_parts_at text (Some place) = Some (take place text, drop (place + 1) text)
-
-abbrev pub two_parts : List ℕ → Option (List ℕ × List ℕ)
-two_parts text = two_parts_at text (position is_space text)
 
 -- ---- answers
 
@@ -90,6 +75,32 @@ abbrev pub digest_in_words : List Placed → Option (List ℕ × List ℕ) → R
 digest_in_words arrivals None = Err fault.NoQuestion
 digest_in_words arrivals (Some parts) = about (one_word parts.1) (λ count. digest_of_words arrivals parts.0 count)
 
+-- ---- questions for banks, which name them first
+
+abbrev pub report_for_day : MessageSet → List ℕ → List ℕ → Option (List ℕ × List ℕ) → Result (List ℕ) QuestionFault
+report_for_day held banks bank words = about words (λ parts. report_answer_for banks bank parts.0 (with_feeds parts.1) held)
+
+abbrev pub report_asked_for : MessageSet → List ℕ → Option (List ℕ × List ℕ) → Result (List ℕ) QuestionFault
+report_asked_for held banks None = Err fault.NoQuestion
+report_asked_for held banks (Some parts) = report_for_day held banks parts.0 (two_parts parts.1)
+
+-- `transfer BANK TX`, `messages BANK TX`, `bank BANK` or `report BANK DAY LIST`
+abbrev pub answer_about_for : MessageSet → List ℕ → List ℕ → List ℕ → Result (List ℕ) QuestionFault
+answer_about_for held banks name rest =
+    if is_text name (codes "transfer") then about (two_parts rest) (λ parts. transfer_answer_for banks parts.0 parts.1 held)
+    else if is_text name (codes "messages") then about (two_parts rest) (λ parts. messages_answer_for banks parts.0 parts.1 held)
+    else if is_text name (codes "bank") then about (one_word rest) (λ bank. bank_answer_for banks bank held)
+    else if is_text name (codes "report") then report_asked_for held banks (two_parts rest)
+    else Err fault.NoQuestion
+
+abbrev pub answer_named_for : MessageSet → List ℕ → Option (List ℕ × List ℕ) → Result (List ℕ) QuestionFault
+answer_named_for held banks None = Err fault.NoQuestion
+answer_named_for held banks (Some parts) = answer_about_for held banks parts.0 parts.1
+
+abbrev pub answer_for_banks : MessageSet → Option (List ℕ × List ℕ) → Result (List ℕ) QuestionFault
+answer_for_banks held None = Err fault.NoQuestion
+answer_for_banks held (Some parts) = answer_named_for held parts.0 (two_parts parts.1)
+
 -- questions about what comes after the first word
 abbrev pub answer_about : WatchedSite → List ℕ → List ℕ → Result (List ℕ) QuestionFault
 answer_about site name rest =
@@ -102,6 +113,7 @@ answer_about site name rest =
     else if is_text name (codes "entries") then entries_in_words site.core.arrivals (two_parts rest)
     else if is_text name (codes "digest") then digest_in_words site.core.arrivals (two_parts rest)
     else if is_text name (codes "report") then report_asked (messages_of site.core.arrivals) (two_parts rest)
+    else if is_text name (codes "of") then answer_for_banks (messages_of site.core.arrivals) (two_parts rest)
     else Err fault.NoQuestion
 
 abbrev pub answer_in : WatchedSite → List ℕ → Option (List ℕ × List ℕ) → Result (List ℕ) QuestionFault
@@ -109,7 +121,8 @@ answer_in site text None = answer_named site text
 answer_in site text (Some parts) = answer_about site parts.0 parts.1
 
 -- the answer to a question: `vector`, `cut HAVE`, `entries ORIGIN ABOVE MOST`, `digest ORIGIN COUNT`, `digests`, `status`, `totals`,
--- `archive`, `contradictions`, `evaluate`, `changes`, `transfer BANK TX`, `messages BANK TX`, `bank BANK` or `report BANK DAY LIST`
+-- `archive`, `contradictions`, `evaluate`, `changes`, `transfer BANK TX`, `messages BANK TX`, `bank BANK`, `report BANK DAY LIST`, or
+-- `of BANKS` with one of the last four
 unfoldable pub answer_asked : WatchedSite → List ℕ → Result (List ℕ) QuestionFault
 answer_asked site question = answer_in site question (two_parts question)
 
@@ -119,10 +132,10 @@ answer_asked site question = answer_in site question (two_parts question)
 abbrev pub watched_after : WatchedSite → List ℕ → Option ℕ
 watched_after site question = if is_text question (codes "changes") then Some (length site.core.arrivals) else site.watched
 
--- the site and its watch after a line: a question may begin to watch, and leaves the site; every other line leaves the watch
+-- the site and its watch after a request: a question may begin to watch, and leaves the site; every other request leaves the watch
 unfoldable pub watched_site_given : WatchedSite → List ℕ → WatchedSite
 watched_site_given site line = record {
-  core = core_given site.core line;
+  core = core_requested site.core line;
   watched = if is_question_line line then watched_after site (drop 2 line) else site.watched;
 }
 

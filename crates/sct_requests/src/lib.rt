@@ -1,9 +1,11 @@
 //! The requests to a site that lasts: lines that it is given, and questions about what it holds.
 //!
-//! A line is a message, a delta text with tabs for its line feeds, a question, or blank. [`give_all`] gives a site the lines of
-//! a text: it answers each, and collects those that brought the site an entry. [`ask`] answers a question.
+//! A line is a message, a message in the name of banks, a delta text with tabs for its line feeds, a question, or blank. [`give_all`]
+//! gives a site the lines of a text: it answers each, and collects those that brought the site an entry. [`ask`] answers a question.
 #![tactic(auto)]
 
+mod grants;
+pub mod laws;
 mod questions;
 mod steps;
 mod words;

@@ -5,7 +5,9 @@ ghost use Rattle.sct_embed.specs.Asking as asked;
 ghost use Rattle.sct_embed.specs.Asking.{answer_to_question};
 ghost use Rattle.sct_embed.specs.Calls.{cut_answer};
 ghost use Rattle.sct_embed.specs.Questions.{bank_answer, changes_since, messages_answer, transfer_answer};
-ghost use Rattle.sct_requests.specs.Questions.{Says, about, answer_about, answer_asked, answer_named, answered, digest_in_words, digest_of_words, entries_in_words, entries_of_words, one_word, report_asked, two_parts, watched_after};
+ghost use Rattle.sct_embed.specs.ByBanks.{bank_answer_for, messages_answer_for, transfer_answer_for};
+ghost use Rattle.sct_requests.specs.Questions.{Says, about, answer_about, answer_about_for, answer_asked, answer_for_banks, answer_named, answered, digest_in_words, digest_of_words, entries_in_words, entries_of_words, report_asked, report_asked_for, watched_after};
+ghost use Rattle.sct_requests.specs.Words.{one_word, two_parts};
 
 use crate::steps::with_feeds;
 use crate::words::{one_word, two_parts};
@@ -243,6 +245,123 @@ fn ask_messages(site: &mut EmbeddedSite, words: &[u8]) -> Result<AskResult, Allo
     put(site, Question::Messages { bank, tx })
 }
 
+// Asks for the lines of a transfer, for banks.
+fn ask_transfer_for(
+    site: &mut EmbeddedSite,
+    banks: &[u8],
+    words: &[u8],
+) -> Result<AskResult, AllocError>
+    ensures says { Says (about (two_parts words.now) (λ parts. transfer_answer_for banks.now parts.0 parts.1 (messages_of site.old.core.arrivals))) result site.new.answer }
+    ensures core { site.new.core ≡ site.old.core }
+    ensures watched { site.new.watched ≡ site.old.watched }
+{
+    let Some((bank, tx)) = two_parts(words) else {
+        return Ok(Err(QuestionFault::NoQuestion));
+    };
+    put(site, Question::TransferFor { banks, bank, tx })
+}
+
+// Asks for the messages on a transfer, for banks.
+fn ask_messages_for(
+    site: &mut EmbeddedSite,
+    banks: &[u8],
+    words: &[u8],
+) -> Result<AskResult, AllocError>
+    ensures says { Says (about (two_parts words.now) (λ parts. messages_answer_for banks.now parts.0 parts.1 (messages_of site.old.core.arrivals))) result site.new.answer }
+    ensures core { site.new.core ≡ site.old.core }
+    ensures watched { site.new.watched ≡ site.old.watched }
+{
+    let Some((bank, tx)) = two_parts(words) else {
+        return Ok(Err(QuestionFault::NoQuestion));
+    };
+    put(site, Question::MessagesFor { banks, bank, tx })
+}
+
+// Asks for the line of a bank, for banks.
+fn ask_bank_for(
+    site: &mut EmbeddedSite,
+    banks: &[u8],
+    words: &[u8],
+) -> Result<AskResult, AllocError>
+    ensures says { Says (about (one_word words.now) (λ bank. bank_answer_for banks.now bank (messages_of site.old.core.arrivals))) result site.new.answer }
+    ensures core { site.new.core ≡ site.old.core }
+    ensures watched { site.new.watched ≡ site.old.watched }
+{
+    let Some(bank) = one_word(words) else {
+        return Ok(Err(QuestionFault::NoQuestion));
+    };
+    put(site, Question::BankFor { banks, bank })
+}
+
+// Asks for the report on the list at the end of the words, for banks.
+fn ask_report_for(
+    alloc: Global,
+    site: &mut EmbeddedSite,
+    banks: &[u8],
+    words: &[u8],
+) -> Result<AskResult, AllocError>
+    ensures says { Says (report_asked_for (messages_of site.old.core.arrivals) banks.now (two_parts words.now)) result site.new.answer }
+    ensures core { site.new.core ≡ site.old.core }
+    ensures watched { site.new.watched ≡ site.old.watched }
+{
+    let Some((bank, words)) = two_parts(words) else {
+        return Ok(Err(QuestionFault::NoQuestion));
+    };
+    let Some((day, list)) = two_parts(words) else {
+        return Ok(Err(QuestionFault::NoQuestion));
+    };
+    let list = with_feeds(alloc, list)?;
+    put(
+        site,
+        Question::ReportFor {
+            banks,
+            bank,
+            day,
+            list: &list,
+        },
+    )
+}
+
+// Asks a question for banks about the words after its name.
+fn ask_about_for(
+    alloc: Global,
+    site: &mut EmbeddedSite,
+    banks: &[u8],
+    name: &[u8],
+    words: &[u8],
+) -> Result<AskResult, AllocError>
+    ensures says { Says (answer_about_for (messages_of site.old.core.arrivals) banks.now name.now words.now) result site.new.answer }
+    ensures core { site.new.core ≡ site.old.core }
+    ensures watched { site.new.watched ≡ site.old.watched }
+{
+    if name == b"transfer".as_slice() {
+        ask_transfer_for(site, banks, words)
+    } else if name == b"messages".as_slice() {
+        ask_messages_for(site, banks, words)
+    } else if name == b"bank".as_slice() {
+        ask_bank_for(site, banks, words)
+    } else if name == b"report".as_slice() {
+        ask_report_for(alloc, site, banks, words)
+    } else {
+        Ok(Err(QuestionFault::NoQuestion))
+    }
+}
+
+// Asks a question for the banks that the first word lists.
+fn ask_for(alloc: Global, site: &mut EmbeddedSite, words: &[u8]) -> Result<AskResult, AllocError>
+    ensures says { Says (answer_for_banks (messages_of site.old.core.arrivals) (two_parts words.now)) result site.new.answer }
+    ensures core { site.new.core ≡ site.old.core }
+    ensures watched { site.new.watched ≡ site.old.watched }
+{
+    let Some((banks, words)) = two_parts(words) else {
+        return Ok(Err(QuestionFault::NoQuestion));
+    };
+    let Some((name, words)) = two_parts(words) else {
+        return Ok(Err(QuestionFault::NoQuestion));
+    };
+    ask_about_for(alloc, site, banks, name, words)
+}
+
 // Asks a question about the words after its name.
 fn ask_about(
     alloc: Global,
@@ -268,6 +387,8 @@ fn ask_about(
         ask_digest(site, words)
     } else if name == b"report".as_slice() {
         ask_report(alloc, site, words)
+    } else if name == b"of".as_slice() {
+        ask_for(alloc, site, words)
     } else {
         Ok(Err(QuestionFault::NoQuestion))
     }

@@ -4,14 +4,17 @@ ghost use Rattle.sct_delta.specs.DeltaText.{delta_in};
 ghost use Rattle.sct_exchange.specs.Rounds.{refusal_of};
 ghost use Rattle.sct_journal.specs.Kept.{IsLine, ended_lines, kept};
 ghost use Rattle.sct_json.specs.Reading.{message_in};
-ghost use Rattle.sct_requests.specs.Steps.{answer_by, answer_to, answer_to_message, answers_to, brings, brought, core_after, core_given, core_offered, core_with_message, fresh_in_file, is_delta_line, is_question_line, text_in, with_feeds};
+ghost use Rattle.sct_requests.specs.Grants.{answer_for, answers_for, brought_by, core_after_requests, core_requested, granted};
+ghost use Rattle.sct_requests.specs.Steps.{answer_by, answer_to, answer_to_message, brings, core_after, core_given, core_offered, core_with_message, fresh_in_file, is_delta_line, is_question_line, text_in, with_feeds};
 
+use crate::grants::{give_request, line_of_request};
 use crate::words::first_ended;
 use sct_delta::DeltaFault;
 use sct_embed::{EmbedFault, EmbeddedSite};
 use sct_journal::{Batch, first_kept};
 use sct_json::JsonFault;
 use sct_lines::is_blank_line;
+use sct_rights::Permission;
 use sct_site::Took;
 use std::alloc::{AllocError, Global};
 
@@ -32,6 +35,10 @@ pub enum Reply {
     Accepted(u64),
     /// It is a delta that the site refuses, and why.
     Refused(DeltaFault),
+    /// It is sent in the name of banks, and these are not 1 to 16 banks with commas between them.
+    WrongBanks,
+    /// It is a message that may not be sent in the name of its banks, or not yet, and why.
+    Withheld(Permission),
 }
 
 /// A text of several lines that is one line: a line feed in place of each tab.
@@ -45,7 +52,8 @@ pub(crate) fn with_feeds(alloc: Global, line: &[u8]) -> Result<Vec<u8>, AllocErr
     Ok(text)
 }
 
-fn is_delta_line(line: &[u8]) -> bool
+/// Whether a line is a delta: it begins with `delta `.
+pub(crate) fn is_delta_line(line: &[u8]) -> bool
     ensures { result ≡ is_delta_line line.now }
 {
     line.starts_with(b"delta ")
@@ -105,20 +113,20 @@ pub(crate) fn give(alloc: Global, site: &mut EmbeddedSite, line: &[u8]) -> Resul
     }
 }
 
-// The site is given a line. Whether that brings it an entry.
+// The site is given a request. Whether that brings it an entry.
 #[tactic(auto, unfolding(crate::specs::Steps::brings))]
 fn give_and_see(
     alloc: Global,
     site: &mut EmbeddedSite,
-    line: &[u8],
+    request: &[u8],
 ) -> Result<(Reply, bool), AllocError>
-    ensures core { OnOk result (site.new.core ≡ core_given site.old.core line.now) }
-    ensures answer { IfOk result (λ given. given.0 ≡ answer_to site.old.core line.now) }
-    ensures brings { IfOk result (λ given. given.1 ≡ brings site.old.core line.now) }
+    ensures core { OnOk result (site.new.core ≡ core_requested site.old.core request.now) }
+    ensures answer { IfOk result (λ given. given.0 ≡ answer_for site.old.core request.now) }
+    ensures brings { IfOk result (λ given. given.1 ≡ brings site.old.core (granted site.old.core request.now)) }
     ensures watched { site.new.watched ≡ site.old.watched }
 {
     let before = site.count();
-    let answer = give(alloc, site, line)?;
+    let answer = give_request(alloc, site, request)?;
     Ok((answer, before < site.count()))
 }
 
@@ -154,21 +162,21 @@ pub struct Given {
     pub brought: Batch,
 }
 
-/// The site is given the lines of a text that line feeds end, one after another. The error is that it is out of memory; lines
-/// before may be taken.
+/// The site is given the requests of a text that line feeds end, one after another. Of a request in the name of banks the journal has
+/// the line alone. The error is that it is out of memory; requests before may be taken.
 pub fn give_all(alloc: Global, site: &mut EmbeddedSite, text: &[u8]) -> Result<Given, AllocError>
-    ensures core { OnOk result (site.new.core ≡ core_after site.old.core (ended_lines text.now)) }
-    ensures answers { IfOk result (λ given. given.answers.items ≡ answers_to site.old.core (ended_lines text.now)) }
-    ensures brought { IfOk result (λ given. given.brought ≡ brought site.old.core (ended_lines text.now)) }
+    ensures core { OnOk result (site.new.core ≡ core_after_requests site.old.core (ended_lines text.now)) }
+    ensures answers { IfOk result (λ given. given.answers.items ≡ answers_for site.old.core (ended_lines text.now)) }
+    ensures brought { IfOk result (λ given. given.brought ≡ brought_by site.old.core (ended_lines text.now)) }
     ensures watched { site.new.watched ≡ site.old.watched }
 {
     let mut answers = Vec::new(alloc);
     let mut brought = Batch::new(alloc);
     let mut rest = text;
-    while let Some((line, after)) = first_ended(rest) {
-        let (answer, brings) = give_and_see(alloc, site, line)?;
+    while let Some((request, after)) = first_ended(rest) {
+        let (answer, brings) = give_and_see(alloc, site, request)?;
         answers.push(answer)?;
-        push_if(&mut brought, line, brings)?;
+        push_if(&mut brought, line_of_request(request), brings)?;
         rest = after;
     }
     Ok(Given { answers, brought })

@@ -2,7 +2,7 @@
 ghost use Rattle.std.specs.Prelude.{◌≡◌, ◌<◌, ◌++◌, ◌∷◌, [], List, ℕ, length, option_map, position, IfSome, IfNone};
 ghost use Rattle.sct_delta.specs.TextLines.{is_space};
 ghost use Rattle.sct_journal.specs.Kept.{IsLine, ended_lines};
-ghost use Rattle.sct_requests.specs.Questions.{one_word, two_parts};
+ghost use Rattle.sct_requests.specs.Words.{one_word, two_parts};
 
 use memchr::memchr;
 

@@ -14,6 +14,7 @@ mod report;
 mod showing;
 mod theirs;
 
+pub use banks::is_one_of;
 pub use by_bank::{ByBank, file_banks, no_banks_filed};
 pub use filed::{ByTransfer, file_all, none_filed};
 pub use listing::read_banks;

@@ -3,14 +3,14 @@ ghost use Rattle.std.specs.Prelude.{◌≡◌, ◌∷◌, ◌<◌, ◌^◌, [], 
 ghost use Rattle.sct_message.specs.Keys.{transfer_key, transfers_of};
 ghost use Rattle.sct_message.specs.Recalls.{transfer_in};
 ghost use Rattle.sct_view.specs.Filed.{IsFiled};
-ghost use Rattle.sct_rights.specs.Rights.{as_beneficiary, as_originators, is_foreign, verdict};
+ghost use Rattle.sct_rights.specs.Rights.{as_beneficiary, as_originators, has_credit_to, has_instruction, is_foreign, verdict};
 
 use crate::banks::is_one_of;
-use crate::filed::ByTransfer;
-use crate::theirs::{has_credit_to, has_instruction};
+use crate::filed::{ByTransfer, on_transfer};
+use crate::theirs::{credit, instruct};
 use sct_element::{Bic, Id35};
 use sct_message::{Draft, Message, RecallTx, TransferKey};
-use sct_view::View;
+use sct_set::Archive;
 
 /// What comes of a message that is sent in the name of banks.
 #[derive(Debug, Drop, PartialEq, Eq)]
@@ -82,36 +82,64 @@ fn as_originators(banks: &[Bic], draft: &Draft) -> Permission
     }
 }
 
+// Whether there is an instruction on the transfer, contradicted or not.
+fn is_instructed(held: &Archive, filed: &ByTransfer, transfer: &TransferKey) -> bool
+    requires { IsFiled held.now filed.now }
+    ensures { result ≡ has_instruction held.now transfer.now }
+{
+    let _ = held;
+    instruct(on_transfer(filed, transfer))
+}
+
+// Whether there is an instruction on the transfer to one of the banks.
+fn is_credited(
+    held: &Archive,
+    filed: &ByTransfer,
+    banks: &[Bic],
+    transfer: &TransferKey,
+) -> bool
+    requires { IsFiled held.now filed.now }
+    ensures { result ≡ has_credit_to banks.now held.now transfer.now }
+{
+    let _ = held;
+    credit(banks, on_transfer(filed, transfer))
+}
+
 // Whether there is an instruction on the transfer, and one to a bank of the banks.
 fn as_beneficiary(
-    view: &View,
+    held: &Archive,
     filed: &ByTransfer,
     banks: &[Bic],
     debtor_agent: &Bic,
     tx: &Id35,
 ) -> Permission
-    requires { IsFiled view.now filed.now }
-    ensures { result ≡ as_beneficiary banks.now view.now (transfer_key debtor_agent.now tx.now) }
+    requires { IsFiled held.now filed.now }
+    ensures { result ≡ as_beneficiary banks.now held.now (transfer_key debtor_agent.now tx.now) }
 {
     let transfer = TransferKey {
         debtor_agent: debtor_agent.copy(),
         tx: tx.copy(),
     };
-    if !has_instruction(view, filed, &transfer) {
+    if !is_instructed(held, filed, &transfer) {
         return Permission::Waits(transfer);
     }
-    if has_credit_to(view, filed, banks, &transfer) {
+    if is_credited(held, filed, banks, &transfer) {
         return Permission::Allowed;
     }
     Permission::NotBeneficiary
 }
 
-/// Whether a message may be sent in the name of banks, to a site that holds the messages of the view. An instruction that is
+/// Whether a message may be sent in the name of banks, to a site that holds the messages of the archive. An instruction that is
 /// contradicted counts. O(banks), times the transactions of a camt.056, or the messages on the transfer of an answer.
 #[tactic(auto, unfolding(crate::specs::Rights::verdict))]
-pub fn verdict(view: &View, filed: &ByTransfer, banks: &[Bic], message: &Message) -> Permission
-    requires { IsFiled view.now filed.now }
-    ensures { result ≡ verdict banks.now view.now message.now }
+pub fn verdict(
+    held: &Archive,
+    filed: &ByTransfer,
+    banks: &[Bic],
+    message: &Message,
+) -> Permission
+    requires { IsFiled held.now filed.now }
+    ensures { result ≡ verdict banks.now held.now message.now }
 {
     let draft = message.draft();
     if !is_one_of(banks, &draft.head().instructing_agent) {
@@ -123,7 +151,7 @@ pub fn verdict(view: &View, filed: &ByTransfer, banks: &[Bic], message: &Message
         }
         Draft::StatusReport(m) => {
             as_beneficiary(
-                view,
+                held,
                 filed,
                 banks,
                 &m.debtor_agent,
@@ -132,7 +160,7 @@ pub fn verdict(view: &View, filed: &ByTransfer, banks: &[Bic], message: &Message
         }
         Draft::PaymentReturn(m) => {
             as_beneficiary(
-                view,
+                held,
                 filed,
                 banks,
                 &m.debtor_agent,
@@ -141,7 +169,7 @@ pub fn verdict(view: &View, filed: &ByTransfer, banks: &[Bic], message: &Message
         }
         Draft::Resolution(m) => {
             as_beneficiary(
-                view,
+                held,
                 filed,
                 banks,
                 &m.debtor_agent,

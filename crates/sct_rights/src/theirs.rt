@@ -13,13 +13,15 @@ use sct_message::{Message, TransferKey};
 use sct_view::View;
 use std::sync::Arc;
 
-fn instruct(messages: &[Arc<Message>]) -> bool
+/// Whether one of the messages is an instruction.
+pub(crate) fn instruct(messages: &[Arc<Message>]) -> bool
     ensures { result ≡ list_any (λ m. instructs (arc_value m)) messages.now }
 {
     messages.iter().any(|message| is_instruction(message))
 }
 
-fn credit(banks: &[Bic], messages: &[Arc<Message>]) -> bool
+/// Whether one of the messages is an instruction to one of the banks.
+pub(crate) fn credit(banks: &[Bic], messages: &[Arc<Message>]) -> bool
     ensures { result ≡ list_any (λ m. credits banks.now (arc_value m)) messages.now }
 {
     messages.iter().any(|message| is_credit_to(banks, message))
@@ -31,8 +33,8 @@ fn pass_between(banks: &[Bic], messages: &[Arc<Message>]) -> bool
     messages.iter().any(|message| is_between(banks, message))
 }
 
-/// Whether there is an instruction on the transfer, contradicted or not. O(messages on the transfer).
-pub(crate) fn has_instruction(view: &View, filed: &ByTransfer, transfer: &TransferKey) -> bool
+// Whether there is an instruction on the transfer, contradicted or not. O(messages on the transfer).
+fn has_instruction(view: &View, filed: &ByTransfer, transfer: &TransferKey) -> bool
     requires { IsFiled view.now filed.now }
     ensures { result ≡ has_instruction view.now transfer.now }
 {
@@ -40,8 +42,8 @@ pub(crate) fn has_instruction(view: &View, filed: &ByTransfer, transfer: &Transf
     instruct(on_transfer(filed, transfer))
 }
 
-/// Whether there is an instruction on the transfer to one of the banks. O(messages on the transfer).
-pub(crate) fn has_credit_to(
+// Whether there is an instruction on the transfer to one of the banks. O(messages on the transfer).
+fn has_credit_to(
     view: &View,
     filed: &ByTransfer,
     banks: &[Bic],

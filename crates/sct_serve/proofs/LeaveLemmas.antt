@@ -7,8 +7,8 @@ use Rattle.sct_site.specs.Cores.{Core}
 use Rattle.sct_journal.specs.Kept.{ended_lines, recorded}
 use Rattle.sct_keeper.specs.Keepers.{IsRecordedBeforeOrAfter}
 use Rattle.sct_requests.specs.WatchedSites.{WatchedSite}
-use Rattle.sct_requests.specs.Steps.{brought}
-use Rattle.sct_requests.proofs.StepLemmas.{brought_join}
+use Rattle.sct_requests.specs.Grants.{brought_by}
+use Rattle.sct_requests.proofs.GrantLemmas.{brought_by_join}
 use Rattle.sct_serve.specs.Replies.{replies_to, watched_site_after}
 use Rattle.sct_serve.specs.Serving.{Leaves, Replied, Stops}
 use Rattle.sct_serve.proofs.ReplyLemmas.{replies_join, watched_site_core, watched_site_join}
@@ -27,7 +27,7 @@ leaves_none s before lines held c same = record {
   keeps = same ∙ sym (append-nil before);
 }
 
-pub leaves_untold : (s : WatchedSite) (before lines : List (List ℕ)) (held : Option (List ℕ)) (c : List ℕ) → IsRecordedBeforeOrAfter before (brought s.core lines) c → Leaves s before held held lines c
+pub leaves_untold : (s : WatchedSite) (before lines : List (List ℕ)) (held : Option (List ℕ)) (c : List ℕ) → IsRecordedBeforeOrAfter before (brought_by s.core lines) c → Leaves s before held held lines c
 leaves_untold s before lines held c (inl without) = leaves_none s before lines held c without
 leaves_untold s before lines held c (inr with_it) = record {
   lasting = lines;
@@ -39,7 +39,7 @@ leaves_untold s before lines held c (inr with_it) = record {
   keeps = with_it;
 }
 
-pub leaves_told : (s : WatchedSite) (before lines : List (List ℕ)) (held held_now : Option (List ℕ)) (c : List ℕ) → recorded c ≡ before ++ brought s.core lines
+pub leaves_told : (s : WatchedSite) (before lines : List (List ℕ)) (held held_now : Option (List ℕ)) (c : List ℕ) → recorded c ≡ before ++ brought_by s.core lines
     → AppendsPrefixIfTold held held_now (replies_to s lines) → Leaves s before held held_now lines c
 leaves_told s before lines None held_now c all part = record {
   lasting = lines;
@@ -60,7 +60,7 @@ leaves_told s before lines (Some held) held_now c all part = record {
   keeps = all;
 }
 
-pub leaves_all : (s : WatchedSite) (before lines : List (List ℕ)) (held held_now : Option (List ℕ)) (c : List ℕ) → recorded c ≡ before ++ brought s.core lines
+pub leaves_all : (s : WatchedSite) (before lines : List (List ℕ)) (held held_now : Option (List ℕ)) (c : List ℕ) → recorded c ≡ before ++ brought_by s.core lines
     → AppendsIfTold held held_now (replies_to s lines) → Leaves s before held held_now lines c
 leaves_all s before lines held held_now c all whole = record {
   lasting = lines;
@@ -78,11 +78,11 @@ pub replied_none : (s : WatchedSite) (sound : Type 0) (before : List (List ℕ))
 replied_none s sound before held = record { ends = refl; replied = appends_nothing held; keeps = λ is. sym (append-nil before) }
 
 -- the lines of a journal after two lots of lines
-pub two_lots : (s : WatchedSite) (before xs ys : List (List ℕ)) → (before ++ brought s.core xs) ++ brought (watched_site_after s xs).core ys ≡ before ++ brought s.core (xs ++ ys)
+pub two_lots : (s : WatchedSite) (before xs ys : List (List ℕ)) → (before ++ brought_by s.core xs) ++ brought_by (watched_site_after s xs).core ys ≡ before ++ brought_by s.core (xs ++ ys)
 two_lots s before xs ys =
-    append_assoc before (brought s.core xs) (brought (watched_site_after s xs).core ys)
-    ∙ ap (λ (c : Core). before ++ (brought s.core xs ++ brought c ys)) (watched_site_core xs s)
-    ∙ ap (λ (l : List (List ℕ)). before ++ l) (sym (brought_join xs ys s.core))
+    append_assoc before (brought_by s.core xs) (brought_by (watched_site_after s xs).core ys)
+    ∙ ap (λ (c : Core). before ++ (brought_by s.core xs ++ brought_by c ys)) (watched_site_core xs s)
+    ∙ ap (λ (l : List (List ℕ)). before ++ l) (sym (brought_by_join xs ys s.core))
 
 pub replied_on : (s m n : WatchedSite) (sound : Type 0) (before mid after : List (List ℕ)) (held told_mid told : Option (List ℕ)) (xs ys : List (List ℕ))
     → Replied s m sound before mid held told_mid xs → Replied m n sound mid after told_mid told ys → Replied s n sound before after held told (xs ++ ys)
@@ -92,7 +92,7 @@ replied_on s m n sound before mid after held told_mid told xs ys first second = 
       subst (λ (l : List ℕ). AppendsIfTold held told l)
       (ap (λ (t : WatchedSite). replies_to s xs ++ replies_to t ys) first.ends ∙ sym (replies_join xs ys s))
       (appends_on held told_mid told (replies_to s xs) (replies_to m ys) first.replied second.replied);
-  keeps = λ is. second.keeps is ∙ (λ i. first.keeps is i ++ brought (first.ends i).core ys) ∙ two_lots s before xs ys;
+  keeps = λ is. second.keeps is ∙ (λ i. first.keeps is i ++ brought_by (first.ends i).core ys) ∙ two_lots s before xs ys;
 }
 
 -- what is left of the second lot, after the first was answered
@@ -111,7 +111,7 @@ leaves_after s m sound before mid held told_mid told xs ys c first is left = rec
         ∙ ap (λ (l : List ℕ). replies_to s xs ++ l) left.replied.1
         ∙ sym (append_assoc (replies_to s xs) left.written left.replied.0),
   );
-  keeps = left.keeps ∙ (λ i. first.keeps is i ++ brought (first.ends i).core left.lasting) ∙ two_lots s before xs left.lasting;
+  keeps = left.keeps ∙ (λ i. first.keeps is i ++ brought_by (first.ends i).core left.lasting) ∙ two_lots s before xs left.lasting;
 }
 
 -- what is left of a first lot, before the others
@@ -197,7 +197,7 @@ module _ (s : WatchedSite) (before : List (List ℕ)) where
   stops_alike held told lines may_leave alike same = subst (λ (h : Option (List ℕ)). Stops s before held h lines may_leave) (sym alike) (stops_none held lines may_leave same)
 
   -- all of it is, or nothing
-  pub stops_round : (held : Option (List ℕ)) (lines : List (List ℕ)) (may_leave : List ℕ → Type 0) → ((c : List ℕ) → may_leave c → IsRecordedBeforeOrAfter before (brought s.core lines) c)
+  pub stops_round : (held : Option (List ℕ)) (lines : List (List ℕ)) (may_leave : List ℕ → Type 0) → ((c : List ℕ) → may_leave c → IsRecordedBeforeOrAfter before (brought_by s.core lines) c)
       → Stops s before held held lines may_leave
   stops_round held lines may_leave left = record {
     done = [];
@@ -205,11 +205,11 @@ module _ (s : WatchedSite) (before : List (List ℕ)) where
     others = [];
     parts = sym (append-nil lines);
     replied = appends_nothing held;
-    leaves = λ c is. subst (λ (l : List (List ℕ)). IsRecordedBeforeOrAfter l (brought s.core lines) c) (sym (append-nil before)) (left c is);
+    leaves = λ c is. subst (λ (l : List (List ℕ)). IsRecordedBeforeOrAfter l (brought_by s.core lines) c) (sym (append-nil before)) (left c is);
   }
 
   -- it was answered
-  pub stops_told : (held told : Option (List ℕ)) (lines : List (List ℕ)) (may_leave : List ℕ → Type 0) → ((c : List ℕ) → may_leave c → recorded c ≡ before ++ brought s.core lines)
+  pub stops_told : (held told : Option (List ℕ)) (lines : List (List ℕ)) (may_leave : List ℕ → Type 0) → ((c : List ℕ) → may_leave c → recorded c ≡ before ++ brought_by s.core lines)
       → AppendsIfTold held told (replies_to s lines) → Stops s before held told lines may_leave
   stops_told held told lines may_leave all whole = record {
     done = lines;
@@ -235,8 +235,8 @@ module _ (s : WatchedSite) (before : List (List ℕ)) where
   abbrev pub stops_after : (m : WatchedSite) (sound : Type 0) (mid : List (List ℕ)) (held told_mid told : Option (List ℕ)) (xs ys : List (List ℕ)) (may_leave : List ℕ → Type 0)
       → Replied s m sound before mid held told_mid xs → sound → Stops m mid told_mid told ys may_leave → Stops s before held told (xs ++ ys) may_leave
   stops_after m sound mid held told_mid told xs ys may_leave first is left =
-      let lines : mid ++ brought m.core left.done ≡ before ++ brought s.core (xs ++ left.done) =
-      (λ i. first.keeps is i ++ brought (first.ends i).core left.done) ∙ two_lots s before xs left.done in
+      let lines : mid ++ brought_by m.core left.done ≡ before ++ brought_by s.core (xs ++ left.done) =
+      (λ i. first.keeps is i ++ brought_by (first.ends i).core left.done) ∙ two_lots s before xs left.done in
       let site : watched_site_after m left.done ≡ watched_site_after s (xs ++ left.done) =
       ap (λ (t : WatchedSite). watched_site_after t left.done) first.ends ∙ sym (watched_site_join xs left.done s) in
       record {
@@ -249,8 +249,8 @@ module _ (s : WatchedSite) (before : List (List ℕ)) where
             (ap (λ (t : WatchedSite). replies_to s xs ++ replies_to t left.done) first.ends ∙ sym (replies_join xs left.done s))
             (appends_on held told_mid told (replies_to s xs) (replies_to m left.done) first.replied left.replied);
         leaves = λ c may.
-            subst (λ (l : List (List ℕ)). IsRecordedBeforeOrAfter l (brought (watched_site_after s (xs ++ left.done)).core left.round) c) lines
-            (subst (λ (t : WatchedSite). IsRecordedBeforeOrAfter (mid ++ brought m.core left.done) (brought t.core left.round) c) site (left.leaves c may));
+            subst (λ (l : List (List ℕ)). IsRecordedBeforeOrAfter l (brought_by (watched_site_after s (xs ++ left.done)).core left.round) c) lines
+            (subst (λ (t : WatchedSite). IsRecordedBeforeOrAfter (mid ++ brought_by m.core left.done) (brought_by t.core left.round) c) site (left.leaves c may));
       }
 
   pub stops_before : (held told : Option (List ℕ)) (xs ys : List (List ℕ)) (may_leave : List ℕ → Type 0) → Stops s before held told xs may_leave → Stops s before held told (xs ++ ys) may_leave

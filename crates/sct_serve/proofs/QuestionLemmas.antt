@@ -9,7 +9,9 @@ use Rattle.sct_site.specs.Cores.{Core}
 use Rattle.sct_journal.specs.Kept.{recorded}
 use Rattle.sct_requests.specs.Questions.{answer_asked, watched_after}
 use Rattle.sct_requests.specs.WatchedSites.{WatchedSite}
-use Rattle.sct_requests.specs.Steps.{brings, brought, core_given, is_delta_line, is_question_line}
+use Rattle.sct_requests.specs.Grants.{brought_by, core_requested, granted, is_as_line}
+use Rattle.sct_requests.specs.Steps.{brings, core_given, is_delta_line, is_question_line}
+use Rattle.sct_requests.proofs.GrantLemmas.{granted_plain}
 use Rattle.sct_serve.specs.Replies.{question_reply, replies_to, reply_to}
 use Rattle.sct_serve.specs.Serving.{Leaves, Replied}
 use Rattle.sct_serve.proofs.LeaveLemmas.{leaves_all, leaves_told}
@@ -27,24 +29,39 @@ begins (byte ∷ bytes) told =
     rest : Bool
     rest = is_question_line (63 ∷ bytes)
 
-given_question : (core : Core) (line : List ℕ) → is_question_line line ≡ true → core_given core line ≡ core
+-- and it is no request in the name of banks
+is_no_as : (line : List ℕ) → is_question_line line ≡ true → is_as_line line ≡ false
+is_no_as [] told = absurd (false≢true told)
+is_no_as (byte ∷ bytes) told =
+    (elim (nat_eq byte 63) as (λ b. nat_eq byte 63 ≡ b → is_as_line (byte ∷ bytes) ≡ false) [
+      | true ↦ λ is. let same : byte ≡ 63 = grind (arith, nat_tests) in ap (λ (b : ℕ). is_as_line (b ∷ bytes)) same
+      | false ↦ λ other. absurd (false≢true (ap (λ (b : Bool). b && rest) (sym other) ∙ told))
+    ]) refl
+  where
+    rest : Bool
+    rest = is_question_line (63 ∷ bytes)
+
+given_itself : (core : Core) (line : List ℕ) → is_question_line line ≡ true → core_given core line ≡ core
 unfolding core_given
-given_question core line told = rw (begins line told, told) refl
+given_itself core line told = rw (begins line told, told) refl
+
+given_question : (core : Core) (line : List ℕ) → is_question_line line ≡ true → core_requested core line ≡ core
+given_question core line told = ap (core_given core) (granted_plain core line (is_no_as line told)) ∙ given_itself core line told
 
 not_longer : (n : ℕ) → nat_lt n n ≡ false
 not_longer n = grind (arith, nat_tests)
 
-brings_nothing : (core : Core) (line : List ℕ) → is_question_line line ≡ true → brings core line ≡ false
+brings_nothing : (core : Core) (line : List ℕ) → is_question_line line ≡ true → brings core (granted core line) ≡ false
 unfolding brings
 brings_nothing core line told = ap (λ (c : Core). nat_lt (length core.arrivals) (length c.arrivals)) (given_question core line told) ∙ not_longer (length core.arrivals)
 
-pub question_brings : (core : Core) (line : List ℕ) → is_question_line line ≡ true → brought core (line ∷ []) ≡ []
-question_brings core line told = ap (λ (b : Bool). cond b (line ∷ []) []) (brings_nothing core line told)
+pub question_brings : (core : Core) (line : List ℕ) → is_question_line line ≡ true → brought_by core (line ∷ []) ≡ []
+question_brings core line told = ap (λ (b : Bool). cond b (granted core line ∷ []) []) (brings_nothing core line told)
 
 pub question_reply_all : (s : WatchedSite) (line : List ℕ) → is_question_line line ≡ true → replies_to s (line ∷ []) ≡ question_reply (answer_asked s (drop 2 line))
 question_reply_all s line told = append-nil (reply_to s line) ∙ question_reply_is s line told
 
-behind : (s : WatchedSite) (before : List (List ℕ)) (line : List ℕ) → is_question_line line ≡ true → before ++ brought s.core (line ∷ []) ≡ before
+behind : (s : WatchedSite) (before : List (List ℕ)) (line : List ℕ) → is_question_line line ≡ true → before ++ brought_by s.core (line ∷ []) ≡ before
 behind s before line told = ap (λ (l : List (List ℕ)). before ++ l) (question_brings s.core line told) ∙ append-nil before
 
 pub question_left : (s : WatchedSite) (before : List (List ℕ)) (line : List ℕ) (held now : Option (List ℕ)) (c : List ℕ) → is_question_line line ≡ true → recorded c ≡ before

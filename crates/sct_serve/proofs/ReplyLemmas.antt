@@ -7,7 +7,8 @@ use Rattle.sct_streams.proofs.StreamLemmas.{appends_on, prefix_front, prefix_on}
 use Rattle.sct_site.specs.Cores.{Core}
 use Rattle.sct_requests.specs.Questions.{answer_asked, watched_after, watched_site_given}
 use Rattle.sct_requests.specs.WatchedSites.{WatchedSite}
-use Rattle.sct_requests.specs.Steps.{answer_to, answers_to, core_after, core_given, is_question_line}
+use Rattle.sct_requests.specs.Grants.{answer_for, answers_for, core_after_requests, core_requested}
+use Rattle.sct_requests.specs.Steps.{is_question_line}
 use Rattle.sct_serve.specs.Replies.{question_reply, replies_to, reply_line, reply_to, watched_site_after}
 use Rattle.sct_serve.specs.Serving.{HasNoQuestion}
 
@@ -21,47 +22,47 @@ replies_join (x ∷ xs) ys s =
     ap (λ (l : List ℕ). reply_to s x ++ l) (replies_join xs ys (watched_site_given s x))
     ∙ sym (append_assoc (reply_to s x) (replies_to (watched_site_given s x) xs) (replies_to (watched_site_after (watched_site_given s x) xs) ys))
 
-given_core : (s : WatchedSite) (line : List ℕ) → (watched_site_given s line).core ≡ core_given s.core line
+given_core : (s : WatchedSite) (line : List ℕ) → (watched_site_given s line).core ≡ core_requested s.core line
 unfolding watched_site_given
 given_core s line = refl
 
-pub watched_site_core : (lines : List (List ℕ)) (s : WatchedSite) → (watched_site_after s lines).core ≡ core_after s.core lines
+pub watched_site_core : (lines : List (List ℕ)) (s : WatchedSite) → (watched_site_after s lines).core ≡ core_after_requests s.core lines
 watched_site_core [] s = refl
-watched_site_core (x ∷ xs) s = watched_site_core xs (watched_site_given s x) ∙ ap (λ (c : Core). core_after c xs) (given_core s x)
+watched_site_core (x ∷ xs) s = watched_site_core xs (watched_site_given s x) ∙ ap (λ (c : Core). core_after_requests c xs) (given_core s x)
 
 -- ---- lines that are no questions
 
 abbrev pub with_core : WatchedSite → Core → WatchedSite
 with_core s core = record { core = core; watched = s.watched }
 
-quiet_given : (s : WatchedSite) (line : List ℕ) → is_question_line line ≡ false → watched_site_given s line ≡ with_core s (core_given s.core line)
+quiet_given : (s : WatchedSite) (line : List ℕ) → is_question_line line ≡ false → watched_site_given s line ≡ with_core s (core_requested s.core line)
 unfolding watched_site_given
-quiet_given s line quiet = ap (λ (b : Bool). record { core = core_given s.core line; watched = cond b (watched_after s (drop 2 line)) s.watched }) quiet
+quiet_given s line quiet = ap (λ (b : Bool). record { core = core_requested s.core line; watched = cond b (watched_after s (drop 2 line)) s.watched }) quiet
 
-quiet_reply : (s : WatchedSite) (line : List ℕ) → is_question_line line ≡ false → reply_to s line ≡ reply_line (answer_to s.core line)
+quiet_reply : (s : WatchedSite) (line : List ℕ) → is_question_line line ≡ false → reply_to s line ≡ reply_line (answer_for s.core line)
 unfolding reply_to
-quiet_reply s line quiet = ap (λ (b : Bool). cond b (question_reply (answer_asked s (drop 2 line))) (reply_line (answer_to s.core line))) quiet
+quiet_reply s line quiet = ap (λ (b : Bool). cond b (question_reply (answer_asked s (drop 2 line))) (reply_line (answer_for s.core line))) quiet
 
-pub quiet_site : (lines : List (List ℕ)) (s : WatchedSite) → HasNoQuestion lines → watched_site_after s lines ≡ with_core s (core_after s.core lines)
+pub quiet_site : (lines : List (List ℕ)) (s : WatchedSite) → HasNoQuestion lines → watched_site_after s lines ≡ with_core s (core_after_requests s.core lines)
 quiet_site [] s none = refl
 quiet_site (x ∷ xs) s none =
-    ap (λ (t : WatchedSite). watched_site_after t xs) (quiet_given s x none.0) ∙ quiet_site xs (with_core s (core_given s.core x)) none.1
+    ap (λ (t : WatchedSite). watched_site_after t xs) (quiet_given s x none.0) ∙ quiet_site xs (with_core s (core_requested s.core x)) none.1
 
-pub quiet_replies : (lines : List (List ℕ)) (s : WatchedSite) → HasNoQuestion lines → replies_to s lines ≡ flat_map reply_line (answers_to s.core lines)
+pub quiet_replies : (lines : List (List ℕ)) (s : WatchedSite) → HasNoQuestion lines → replies_to s lines ≡ flat_map reply_line (answers_for s.core lines)
 quiet_replies [] s none = refl
 quiet_replies (x ∷ xs) s none =
     (λ i. quiet_reply s x none.0 i ++ replies_to (quiet_given s x none.0 i) xs)
-    ∙ ap (λ (l : List ℕ). reply_line (answer_to s.core x) ++ l) (quiet_replies xs (with_core s (core_given s.core x)) none.1)
+    ∙ ap (λ (l : List ℕ). reply_line (answer_for s.core x) ++ l) (quiet_replies xs (with_core s (core_requested s.core x)) none.1)
 
 -- ---- a question
 
 pub question_reply_is : (s : WatchedSite) (line : List ℕ) → is_question_line line ≡ true → reply_to s line ≡ question_reply (answer_asked s (drop 2 line))
 unfolding reply_to
-question_reply_is s line told = ap (λ (b : Bool). cond b (question_reply (answer_asked s (drop 2 line))) (reply_line (answer_to s.core line))) told
+question_reply_is s line told = ap (λ (b : Bool). cond b (question_reply (answer_asked s (drop 2 line))) (reply_line (answer_for s.core line))) told
 
-pub question_site : (s : WatchedSite) (line : List ℕ) → is_question_line line ≡ true → watched_site_given s line ≡ record { core = core_given s.core line; watched = watched_after s (drop 2 line) }
+pub question_site : (s : WatchedSite) (line : List ℕ) → is_question_line line ≡ true → watched_site_given s line ≡ record { core = core_requested s.core line; watched = watched_after s (drop 2 line) }
 unfolding watched_site_given
-question_site s line told = ap (λ (b : Bool). record { core = core_given s.core line; watched = cond b (watched_after s (drop 2 line)) s.watched }) told
+question_site s line told = ap (λ (b : Bool). record { core = core_requested s.core line; watched = cond b (watched_after s (drop 2 line)) s.watched }) told
 
 -- ---- a text that is written in three parts
 

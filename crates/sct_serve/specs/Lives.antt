@@ -5,7 +5,8 @@ use Rattle.sct_site.specs.Cores.{Core}
 use Rattle.sct_exchange.specs.Sites.{held_text}
 use Rattle.sct_journal.specs.Kept.{ended_lines, recorded}
 use Rattle.sct_requests.specs.WatchedSites.{WatchedSite}
-use Rattle.sct_requests.specs.Steps.{brought, core_kept}
+use Rattle.sct_requests.specs.Grants.{brought_by}
+use Rattle.sct_requests.specs.Steps.{core_kept}
 use Rattle.sct_serve.specs.Replies.{replies_to}
 use Rattle.sct_serve.specs.Serving.{IsFrontOf, StopsReading}
 use Rattle.std.specs.Prelude.{None}
@@ -33,7 +34,7 @@ pub record LifeLeaves (site : WatchedSite) (before : List (List ℕ)) (unread un
   pub written : List ℕ
   pub appended : AppendsIfTold held held_now written
   pub replied : IsFrontOf written (ready_line site.core ++ replies_to site lasting)
-  pub keeps : recorded file ≡ before ++ brought site.core lasting
+  pub keeps : recorded file ≡ before ++ brought_by site.core lasting
 
 -- A life ended before its first line: nothing was read or written, and what is left records the same lines.
 pub record NeverSpoke (before : List (List ℕ)) (unread unread_now held held_now : Option (List ℕ)) (may_leave : List ℕ → Type 0) : Type 0 where

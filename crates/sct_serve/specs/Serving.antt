@@ -5,7 +5,8 @@ use Rattle.sct_streams.specs.Stream.{AppendsIfTold, HasReadIfTold}
 use Rattle.sct_journal.specs.Kept.{ended_lines, recorded}
 use Rattle.sct_keeper.specs.Keepers.{EndsOpening, EndsRound, IsForeign, IsRecordedBeforeOrAfter}
 use Rattle.sct_requests.specs.WatchedSites.{WatchedSite}
-use Rattle.sct_requests.specs.Steps.{brought, is_question_line}
+use Rattle.sct_requests.specs.Grants.{brought_by}
+use Rattle.sct_requests.specs.Steps.{is_question_line}
 use Rattle.sct_serve.specs.Replies.{replies_to, watched_site_after}
 use Rattle.sct_serve.specs.declared.fault.ServeFault.{ServeFault}
 use Rattle.sct_serve.specs.declared.fault.ServeFault.TheVariants as fault
@@ -59,7 +60,7 @@ asked (Some line) = line ∷ []
 pub record Replied (site now : WatchedSite) (sound : Type 0) (before after : List (List ℕ)) (held held_now : Option (List ℕ)) (lines : List (List ℕ)) : Type 0 where
   pub ends : now ≡ watched_site_after site lines
   pub replied : AppendsIfTold held held_now (replies_to site lines)
-  pub keeps : sound → after ≡ before ++ brought site.core lines
+  pub keeps : sound → after ≡ before ++ brought_by site.core lines
 
 -- Of the lines that were requested, a front lasts: all that it brought is recorded, and no more. All replies that were
 -- written are replies to it.
@@ -70,7 +71,7 @@ pub record Leaves (site : WatchedSite) (before : List (List ℕ)) (held held_now
   pub written : List ℕ
   pub appended : AppendsIfTold held held_now written
   pub replied : IsFrontOf written (replies_to site lasting)
-  pub keeps : recorded file ≡ before ++ brought site.core lasting
+  pub keeps : recorded file ≡ before ++ brought_by site.core lasting
 
 -- the same of the lines of what was read
 pub record LeavesOf (site : WatchedSite) (before : List (List ℕ)) (unread unread_now held held_now : Option (List ℕ)) (file : List ℕ) : Type 0 where
@@ -86,7 +87,7 @@ pub record Stops (site : WatchedSite) (before : List (List ℕ)) (held held_now 
   pub others : List (List ℕ)
   pub parts : lines ≡ done ++ (round ++ others)
   pub replied : AppendsIfTold held held_now (replies_to site done)
-  pub leaves : (file : List ℕ) → may_leave file → IsRecordedBeforeOrAfter (before ++ brought site.core done) (brought (watched_site_after site done).core round) file
+  pub leaves : (file : List ℕ) → may_leave file → IsRecordedBeforeOrAfter (before ++ brought_by site.core done) (brought_by (watched_site_after site done).core round) file
 
 -- The same of what was read, after these first bytes were written. All lines that were ended before the last read have their
 -- replies, so the round is one of the last read. That gave at most so many bytes.
@@ -101,7 +102,7 @@ pub record StopsReading (most : ℕ) (first : List ℕ) (site : WatchedSite) (be
   pub parts : ended_lines (front ++ last) ≡ (ended_lines front ++ done) ++ (round ++ others)
   pub replied : AppendsIfTold held held_now (first ++ replies_to site (ended_lines front ++ done))
   pub leaves : (file : List ℕ) → may_leave file
-      → IsRecordedBeforeOrAfter (before ++ brought site.core (ended_lines front ++ done)) (brought (watched_site_after site (ended_lines front ++ done)).core round) file
+      → IsRecordedBeforeOrAfter (before ++ brought_by site.core (ended_lines front ++ done)) (brought_by (watched_site_after site (ended_lines front ++ done)).core round) file
 
 -- Some bytes were read. Each line of them has its reply, and what is behind them waits. No request has too many bytes.
 pub record Served (site now : WatchedSite) (sound : Type 0) (before after : List (List ℕ)) (unread unread_now held held_now : Option (List ℕ)) (pending : List ℕ) : Type 0 where

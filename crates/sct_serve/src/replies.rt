@@ -1,11 +1,13 @@
 //! The texts of replies.
 ghost use Rattle.std.specs.Prelude.{◌≡◌, ◌++◌, IfOk, Err, codes, flat_map, string_bytes};
 ghost use Rattle.std.specs.Fmt.{decimal};
-ghost use Rattle.sct_serve.specs.Replies.{place_text, question_refusal, question_reply, reply_line, reply_text, took_text};
+ghost use Rattle.sct_serve.specs.Replies.{place_text, question_refusal, question_reply, reply_line, reply_text, took_text, withheld_text};
 
 use sct_exchange::push_refusal;
 use sct_lines::push_json_fault;
+use sct_message::TransferKey;
 use sct_requests::{QuestionFault, Reply};
+use sct_rights::Permission;
 use sct_site::Took;
 use std::alloc::{AllocError, Global};
 use std::fmt::Write;
@@ -16,6 +18,31 @@ fn push_took(text: &mut String, took: &Took) -> Result<(), AllocError>
     match took {
         Took::Taken { n } => write!(text, "TAKEN {n}"),
         Took::Repeat => text.push_str("REPEAT"),
+    }
+}
+
+// Appends that a message waits for an instruction on a transfer.
+fn push_waits(text: &mut String, transfer: &TransferKey) -> Result<(), AllocError>
+    ensures { IfOk result (λ _. string_bytes text.new
+        ≡ string_bytes text.old ++ (codes "WAITING " ++ transfer.now.debtor_agent ++ codes " " ++ transfer.now.tx)) }
+{
+    text.push_str("WAITING ")?;
+    text.push_str(transfer.debtor_agent.text())?;
+    text.push_str(" ")?;
+    text.push_str(transfer.tx.text())
+}
+
+// Appends why a message in the name of banks is not taken.
+#[tactic(auto, unfolding(crate::specs::Replies::withheld_text))]
+fn push_withheld(text: &mut String, permission: &Permission) -> Result<(), AllocError>
+    ensures { IfOk result (λ _. string_bytes text.new ≡ string_bytes text.old ++ withheld_text permission.now) }
+{
+    match permission {
+        Permission::Allowed => Ok(()),
+        Permission::NotSender => text.push_str("FORBIDDEN sender"),
+        Permission::NotOriginator(place) => write!(text, "FORBIDDEN originator {place}"),
+        Permission::NotBeneficiary => text.push_str("FORBIDDEN beneficiary"),
+        Permission::Waits(transfer) => push_waits(text, transfer),
     }
 }
 
@@ -37,6 +64,8 @@ fn push_reply(alloc: Global, text: &mut String, reply: &Reply) -> Result<(), All
             text.push_str("REFUSED ")?;
             push_refusal(text, fault)
         }
+        Reply::WrongBanks => text.push_str("REFUSED 73 1"),
+        Reply::Withheld(permission) => push_withheld(text, permission),
     }
 }
 

@@ -1,32 +1,41 @@
--- One line more.
+-- One request more.
 use Rattle.std.proofs.Common.{◌≡◌, ◌∙◌, ◌++◌, ◌∷◌, [], List, ℕ, cond, ap, sym, append_assoc}
 use Rattle.sct_journal.specs.Kept.{ended_lines}
 use Rattle.sct_site.specs.Cores.{Core}
-use Rattle.sct_requests.specs.Steps.{answer_to, answers_to, brings, brought, core_after, core_given}
+use Rattle.sct_requests.specs.Grants.{answer_for, answers_for, brought_by, core_after_requests, core_requested, granted, line_of_request}
+use Rattle.sct_requests.specs.Steps.{brings}
 use Rattle.sct_requests.specs.declared.steps.Reply.{Reply}
+use Rattle.sct_requests.proofs.GrantLemmas.{kept_alike}
 use Rattle.sct_requests.proofs.StepLemmas.{brought_next}
 use Rattle.sct_requests.proofs.steps.give_all.Goals as goal
 
-pub loop-line-preserved : goal.loop-line-preserved
-loop-line-preserved c =
-    let before : Core = c.loop-line.site.core in
-    let line : List ℕ = c.in-Some.line.now in
+pub loop-request-preserved : goal.loop-request-preserved
+loop-request-preserved c =
+    let before : Core = c.loop-request.site.core in
+    let after : Core = c.give_and_see.new.site.core in
+    let request : List ℕ = c.in-Some.request.now in
     let rest : List (List ℕ) = ended_lines c.in-Some.after.now in
-    let next : ended_lines c.loop-line.rest.now ≡ line ∷ rest = c.in-Some.ensures.first in
-    let given : c.give_and_see.new.site.core ≡ core_given before line = c.in_ok-answer.ensures.core in
+    let next : ended_lines c.loop-request.rest.now ≡ request ∷ rest = c.in-Some.ensures.first in
+    let given : after ≡ core_requested before request = c.in_ok-answer.ensures.core in
+    let answers = c.loop-request.answers.items in
+    let brought = c.loop-request.brought in
+    let some = brings before (granted before request) in
     record {
-      core = ap (λ (x : Core). core_after x rest) given ∙ ap (core_after before) (sym next) ∙ c.loop-line.invariant.core;
+      core = ap (λ (x : Core). core_after_requests x rest) given ∙ ap (core_after_requests before) (sym next) ∙ c.loop-request.invariant.core;
       told =
-          ap (λ (l : List Reply). l ++ answers_to c.give_and_see.new.site.core rest) (c.in_ok-push.ensures.items ∙ ap (λ (a : Reply). c.loop-line.answers.items ++ a ∷ []) c.in_ok-answer.ensures.answer)
-          ∙ append_assoc c.loop-line.answers.items (answer_to before line ∷ []) (answers_to c.give_and_see.new.site.core rest)
-          ∙ ap (λ (x : Core). c.loop-line.answers.items ++ answer_to before line ∷ answers_to x rest) given
-          ∙ ap (λ (l : List (List ℕ)). c.loop-line.answers.items ++ answers_to before l) (sym next)
-          ∙ c.loop-line.invariant.told;
+          ap (λ (l : List Reply). l ++ answers_for after rest) (c.in_ok-push.ensures.items ∙ ap (λ (a : Reply). answers ++ a ∷ []) c.in_ok-answer.ensures.answer)
+          ∙ append_assoc answers (answer_for before request ∷ []) (answers_for after rest)
+          ∙ ap (λ (x : Core). answers ++ answer_for before request ∷ answers_for x rest) given
+          ∙ ap (λ (l : List (List ℕ)). answers ++ answers_for before l) (sym next)
+          ∙ c.loop-request.invariant.told;
       kept =
-          ap (λ (l : List (List ℕ)). l ++ brought c.give_and_see.new.site.core rest) (c.in_ok-push_if.ensures ∙ ap (λ b. c.loop-line.brought ++ cond b (line ∷ []) []) c.in_ok-answer.ensures.brings)
-          ∙ ap (λ (x : Core). (c.loop-line.brought ++ cond (brings before line) (line ∷ []) []) ++ brought x rest) given
-          ∙ brought_next c.loop-line.brought (brought (core_given before line) rest) line (brings before line)
-          ∙ ap (λ (l : List (List ℕ)). c.loop-line.brought ++ brought before l) (sym next)
-          ∙ c.loop-line.invariant.kept;
-      watched = c.give_and_see.ensures.watched ∙ c.loop-line.invariant.watched;
+          ap (λ (l : List (List ℕ)). l ++ brought_by after rest)
+          (c.in_ok-push_if.ensures
+          ∙ (λ i. brought ++ cond (c.in_ok-answer.ensures.brings i) (c.line_of_request.ensures.value i ∷ []) [])
+          ∙ ap (λ (l : List (List ℕ)). brought ++ l) (kept_alike before request))
+          ∙ ap (λ (x : Core). (brought ++ cond some (granted before request ∷ []) []) ++ brought_by x rest) given
+          ∙ brought_next brought (brought_by (core_requested before request) rest) (granted before request) some
+          ∙ ap (λ (l : List (List ℕ)). brought ++ brought_by before l) (sym next)
+          ∙ c.loop-request.invariant.kept;
+      watched = c.give_and_see.ensures.watched ∙ c.loop-request.invariant.watched;
     }

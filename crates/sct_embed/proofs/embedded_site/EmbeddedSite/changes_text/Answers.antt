@@ -14,6 +14,7 @@ invariant_of-self-2 c =
       shown = showing.shown;
       watched = watched_anew c.show_all.new.self.count c.self.inside.core.arrivals (record { asked = c.show_all.new.self.count; changed = c.new.result }) refl c.new.ensures.items;
       digests = showing.digests;
+      shelf = showing.shelf;
     }
 
 pub returns-clause-answer : goal.returns-clause-answer

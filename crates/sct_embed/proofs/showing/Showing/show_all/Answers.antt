@@ -32,4 +32,5 @@ returns-clause-shown c =
           (subst (λ (held : MessageSet). IsLater was held (messages_of (drop k es)) later) c.requires.shown.held
           (subst (λ (b : MessageSet). IsLater was c.args.self.now.view b later) batch c.in_ok-watch.ensures));
       digests = c.requires.digests;
+      shelf = c.requires.shelf;
     }

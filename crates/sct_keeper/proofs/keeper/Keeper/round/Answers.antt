@@ -1,6 +1,7 @@
 -- The journal has the lines that the round brings.
 use Rattle.std.proofs.Common.{◌≡◌, ◌∙◌, ◌++◌, ◌∷◌, List, ℕ, IsTrue, ap, sym, subst}
 use Rattle.sct_journal.specs.Kept.{recorded, ended_lines}
+use Rattle.sct_requests.specs.Grants.{grants}
 use Rattle.sct_requests.proofs.StepLemmas.{group_after, kept_more, number_after}
 use Rattle.sct_site.specs.Cores.{Core}
 use Rattle.sct_keeper.specs.Keepers.{header}
@@ -11,7 +12,7 @@ pub returns-clause-keeper : goal.returns-clause-keeper
 returns-clause-keeper g c =
     let was = c.args.self.now.site.core in
     let now = c.give_all.new.site.core in
-    let lines = ended_lines c.args.text.now in
+    let lines = grants was (ended_lines c.args.text.now) in
     let first = header was.number was.group in
     let number : now.number ≡ was.number = ap (λ (x : Core). x.number) c.in_ok-answers.ensures.core ∙ number_after lines was in
     let group : now.group ≡ was.group = ap (λ (x : Core). x.group) c.in_ok-answers.ensures.core ∙ group_after lines was in

@@ -1,0 +1,18 @@
+//! Laws of requests. Each law is the contract of a function with an empty body.
+
+ghost use Rattle.sct_requests.specs.Laws.{BanksSendInTheirName, NothingLeaksToBanks, RequestsAreGivenInOrder};
+
+/// Each entry that a request in the name of banks brings is a message that may be sent in their name. Nothing else happens.
+pub fn banks_send_in_their_name()
+    ensures { BanksSendInTheirName }
+{}
+
+/// Requests in parts are what they are together, and the journal keeps the lines that the site was given.
+pub fn requests_are_given_in_order()
+    ensures { RequestsAreGivenInOrder }
+{}
+
+/// The reply to a question of banks depends on the messages on their transfers alone, as these are shown.
+pub fn nothing_leaks_to_banks()
+    ensures { NothingLeaksToBanks }
+{}
