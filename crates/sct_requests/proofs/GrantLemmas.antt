@@ -135,8 +135,8 @@ each_sent : (requests : List (List ℕ)) (core : Core) (line : List ℕ) → IsA
 each_sent [] core line among = absurd among
 each_sent (request ∷ requests) core line among =
     (elim (brings core (granted core request)) as (λ b. brings core (granted core request) ≡ b
-        → IsAmong (cond b (granted core request ∷ brought_by (core_requested core request) requests) (brought_by (core_requested core request) requests)) line
-        → WasSent core (request ∷ requests) line) [
+    → IsAmong (cond b (granted core request ∷ brought_by (core_requested core request) requests) (brought_by (core_requested core request) requests)) line
+    → WasSent core (request ∷ requests) line) [
       | true ↦ λ some there. elim there [
         | inl is ↦ sent_now core request requests line some is
         | inr later ↦ sent_later core request requests line (each_sent requests (core_requested core request) line later)
@@ -332,9 +332,9 @@ module _ (core : Core) (request : List ℕ) (as_line : is_as_line request ≡ tr
       how_judged : (m : Draft) → message_in sent ≡ Ok m → (p : Permission) → verdict banks (messages_of core.arrivals) m ≡ p → IsAnsweredSo core request
       how_judged m read permission.Allowed judged =
           inl (
-            sym (answered_allowed core banks sent m (took_by core m) read judged ∙ sym answered_plainly)
-            ∙ sym (plain_answered core sent plain ∙ ap (answer_to_message core) read)
-            ∙ ap (answer_to core) (sym (granted_some ∙ by_permit core banks sent plain true (ap (is_permitted banks (messages_of core.arrivals)) read ∙ ap is_allowed judged)))
+          sym (answered_allowed core banks sent m (took_by core m) read judged ∙ sym answered_plainly)
+          ∙ sym (plain_answered core sent plain ∙ ap (answer_to_message core) read)
+          ∙ ap (answer_to core) (sym (granted_some ∙ by_permit core banks sent plain true (ap (is_permitted banks (messages_of core.arrivals)) read ∙ ap is_allowed judged)))
           )
       how_judged m read permission.NotSender judged = how_withheld m permission.NotSender read judged refl refl
       how_judged m read (permission.NotOriginator place) judged = how_withheld m (permission.NotOriginator place) read judged refl refl
