@@ -9,7 +9,7 @@ from tests.hub import sites
 from tests.hub.attackers import LUX, SCA, Secure, confirmation, instruction
 from tests.hub.sites import own_lines, until
 from tests.hub.trial import line_of
-from tests.hub.troubles import tried_with_library
+from tests.hub.troubles import tried_with_tls
 
 CELLS = "number, at, who, address, request, act, what, sum"
 
@@ -159,7 +159,7 @@ CHECKS = [drill, halted, deaf]
 
 
 def check(python, program):
-    return tried_with_library("waits", CHECKS, python, program)
+    return tried_with_tls("waits", CHECKS, python, program)
 
 
 if __name__ == "__main__":
