@@ -161,6 +161,7 @@ class Roles:
         holders = self._holders(certificate)
         return len(holders) == 1 and number in holders.pop().peers
 
-    def banks_of(self, name: str) -> frozenset[str]:
-        """The banks in whose names somebody of a name sends."""
-        return next((who.banks for who in self.all if who.name == name), frozenset())
+    def banks_of(self, name: str, bank: str) -> frozenset[str]:
+        """The banks in whose names somebody of a name sends, who sent for a bank: for that one, without a file."""
+        return frozenset([bank]) if self.is_open else next((who.banks for who in self.all if who.name == name),
+                                                           frozenset())

@@ -13,8 +13,7 @@ import collections
 import itertools
 import logging
 import time
-from types import MappingProxyType
-from typing import Callable, Mapping, NamedTuple
+from typing import Callable, NamedTuple
 from . import chain, limits, senders, waiting
 from .access import Who
 from .acknowledge import Copies
@@ -43,13 +42,13 @@ class Posts:
     changed: set[tuple[str, str]]
     fresh: list[waiting.Waiting]
     task: asyncio.Task[None] | None
-    banks_of: Callable[[str], frozenset[str]]
+    banks_of: Callable[[str, str], frozenset[str]]
 
     def __init__(self, keeper: Keeper, its_record: Record, seconds: float) -> None:
         self.keeper, self.record, self.ends = keeper, its_record, Ends(seconds)
         self.names, self.many, self.some, self.task, self.watches = set(), 0, asyncio.Event(), None, False
         self.copies = Copies(keeper)
-        self.banks_of = lambda name: frozenset()  # in whose names somebody sends now
+        self.banks_of = lambda name, bank: frozenset()  # in whose names somebody sends now who sent for a bank
         self.changed = set()  # transfers with something that waits, and of which a message came
         self.fresh = []  # lines that wait, and were not looked at since
         self.under_way = 0  # posts that have no answer yet
@@ -92,7 +91,7 @@ class Posts:
 
     async def _posted(self, asker: Asker, lines: list[bytes]) -> list[Outcome]:
         if asker.who.may(("operator",)):
-            return await self._handed_on(asker, lines)
+            return await self._handed_on(asker, lines, None, {})
         lines, named = await asyncio.to_thread(lambda: ([senders.without_blanks(line) for line in lines],
                                                         list(map(named_in, lines))))
         outcomes = await self._handed_on(asker, lines, asker.who.banks, self._full(asker.who.name, named))
@@ -119,8 +118,8 @@ class Posts:
     def _from(self, asker: Asker) -> tuple[str, str, str]:
         return asker.who.name, asker.address, asker.request
 
-    async def _handed_on(self, asker: Asker, lines: list[bytes], banks: frozenset[str] | None = None,
-                         full: Mapping[int, Outcome] = MappingProxyType({})) -> list[Outcome]:
+    async def _handed_on(self, asker: Asker, lines: list[bytes], banks: frozenset[str] | None,
+                         full: dict[int, Outcome]) -> list[Outcome]:
         """The outcomes of lines that the process is given, in the names of some banks or in any, after the record has
         them. Some have theirs already, by their places, and are not given. Of a bank's lines that cannot be messages
         the record has the number alone, so that nobody fills the disk."""
@@ -216,7 +215,7 @@ class Posts:
             if (changed or fresh) and self.is_open and not self.keeper.marks.refusal():
                 again = [row for row in await self.record.waiting()
                          if (row.originator, row.tx) in changed] if changed else []
-                await self._handed_on_again([*fresh, *(row for row in again if row not in fresh)])
+                await self._handed_on_again(list({row.number: row for row in [*again, *fresh]}.values()))
         except BaseException:
             self.changed, self.fresh = self.changed | changed, fresh + self.fresh
             raise
@@ -241,16 +240,21 @@ class Posts:
     async def _handed_on_again(self, rows: list[waiting.Waiting]) -> None:
         """Hands lines on that wait, some at a time, in the names that their clients have now. What has no instruction
         yet waits on."""
-        for who, its in itertools.groupby(sorted(rows, key=lambda row: row.who), key=lambda row: row.who):
-            banks, left = self.banks_of(who), list(its)
+        def sender(row: waiting.Waiting) -> tuple[str, str]:
+            return row.who, row.bank
+
+        for (who, bank), its in itertools.groupby(sorted(rows, key=sender), key=sender):
+            banks, left = self.banks_of(who, bank), list(its)
             for place in range(0, len(left), limits.ASKED_AT_ONCE):
                 some = left[place:place + limits.ASKED_AT_ONCE]
-                outcomes = await self.keeper.take([row.line for row in some], banks) if banks else [
-                    Outcome("FORBIDDEN", 0, f"{who} does not send in the name of a bank any more")] * len(some)
+                if banks:
+                    outcomes = [told(one, banks) for one in await self.keeper.take([row.line for row in some], banks)]
+                else:
+                    why = f"{who} does not send in the name of {bank} any more"
+                    outcomes = [Outcome("FORBIDDEN", 0, why)] * len(some)
                 for row, outcome in zip(some, outcomes):
                     if outcome.word != "WAITING":
-                        its_end = told(outcome, banks)
-                        await self._ended(row.number, its_end.word, its_end.number or its_end.why or None)
+                        await self._ended(row.number, outcome.word, outcome.number or outcome.why or None)
 
 
 def told(outcome: Outcome, banks: frozenset[str] | None) -> Outcome:

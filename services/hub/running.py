@@ -112,7 +112,7 @@ class Site:
         await self._open()
         self.posts = Posts(self.keeper, self.record, self.settings.waiting)
         self.posts.copies.be(self.settings)
-        self.posts.banks_of = lambda name: self.roles.banks_of(name)
+        self.posts.banks_of = lambda name, bank: self.roles.banks_of(name, bank)
         self.guard = Guard([self.settings.host, *self.settings.names], self.roles)
         self.record.clients = self.guard.clients
         self.parts = Parts(self.keeper, self.peers, self.guard, self.record, self.posts, self.version,

@@ -181,8 +181,9 @@ def knows_who_asks():
                                            for n in (2, 3, 5)] == [True, False, True]
     yield "and that one that is two at once is none", not roles.is_peer(2, certificate("DNS:site2.example",
                                                                                        "DNS:gateway.lutefrpp.example"))
-    yield "in whose names somebody sends", [roles.banks_of(name) for name in ("lutefrpp", "desk", "lutefrp")] == [
-        {"LUTEFRPPXXX", "HANSDEHH370"}, frozenset(), frozenset()]
+    yield "in whose names somebody sends", [
+        its.banks_of(name, "SCALBEBBXXX") for its in (roles, access.Roles()) for name in ("lutefrpp", "desk", "x")] == [
+            {"LUTEFRPPXXX", "HANSDEHH370"}, frozenset(), frozenset(), *[{"SCALBEBBXXX"}] * 3]
     most = access.who_of("x", [f"bank LUTEFR{number:02d}" for number in range(16)])
     yield "sixteen banks of one", len(most.banks) == 16
     yield "a bank is no peer", not roles.is_peer(2, certificate("DNS:gateway.lutefrpp.example")) and peer.peers == {2,
