@@ -20,7 +20,7 @@ import tempfile
 from tests import harness
 from tests.embed import model
 from tests.oracle import exchange, rights, serve
-from tests.oracle.status import read_message
+from tests.oracle.status import identity, read_message, transfers
 from tests.property import cases
 from tests.property.messages import BANKS, Pool, shuffled
 from tests.property.worlds import refused_list, refused_text
@@ -45,7 +45,16 @@ TO_MEET = ["TAKEN", "REPEAT", "blank", "ACCEPTED 0", "ACCEPTED", "form 1", *(f"R
                                    "REFUSED 73 1"]),
            *(f"of {it}" for it in ["transfer", "messages", "bank", "report", "REFUSED 48", "REFUSED 64", "REFUSED 73 1",
                                    "REFUSED 73 2", "REFUSED 73 3", "REFUSED 79"]),
-           "a transfer of theirs", "a transfer of others", "a recall in part", "an instruction to several banks"]
+           "a transfer of theirs", "a transfer of others", "a recall in part", "an instruction to several banks",
+           "an answer without its instruction is theirs", "a later transaction of others",
+           "a contradiction by a message of others"]
+
+
+class Mixed(Pool):
+    """A pool of messages of which each bank is the originator bank as often as the others."""
+
+    def debtor_bank(self):
+        return self.r.choice(self.banks)
 
 
 class Stream(Requests):
@@ -53,8 +62,19 @@ class Stream(Requests):
 
     def __init__(self, r, own, group):
         super().__init__(r, own, group, SHARES)
-        self.own, self.pool, self.lines = own, Pool(r), []
+        self.own, self.pool, self.lines = own, r.choice([Pool, Mixed])(r), []
         self.messages = [self.pool.message() for _ in range(r.randint(5, 50))]
+        self.messages += [self.rival(one) for one in r.sample(self.messages, len(self.messages) // 4)]
+
+    def rival(self, message):
+        """A message with the identity of another one, about another transfer of any banks. A list has other
+        transactions."""
+        r = self.r
+        if "TxInf" in message:
+            return {**message, "TxInf": r.choice([message["TxInf"][1:], []]) or self.pool.transactions()}
+        banks = {key: r.choice(BANKS) for key in ("DbtrAgt", "CdtrAgt") if key in message}
+        name = "TxId" if "TxId" in message else "OrgnlTxId"
+        return {**message, **banks, name: r.choice([*self.pool.transfers, "T7", "T8"])}
 
     def text(self):
         return shuffled(self.r, self.r.choice(self.messages))
@@ -189,7 +209,8 @@ def kind_of(line, reply):
 def kinds_of(line, reply, site):
     """What a request meets by its reply, and by what the site holds."""
     if line.startswith(b"as "):
-        return [f"as {kind_of(b'', reply)}"]
+        later = reply.startswith(b"FORBIDDEN originator") and reply != b"FORBIDDEN originator 1\n"
+        return [f"as {kind_of(b'', reply)}", *(["a later transaction of others"] if later else [])]
     if not line.startswith(b"? of "):
         return [kind_of(line, reply)]
     if not reply.startswith(b"TEXT"):
@@ -206,10 +227,16 @@ def met_on(banks, its, name, reply, site):
     text = texts[name](banks, site.messages, its).encode()
     if reply != b"TEXT %d\n%s\n" % (len(text), text):
         raise Differs(f"{name!r} of {banks} on {its}: the definitions have {text!r}")
-    yield "a transfer of theirs" if rights.is_theirs(banks, site.messages, its) else "a transfer of others"
+    is_theirs = rights.is_theirs(banks, site.messages, its)
+    yield "a transfer of theirs" if is_theirs else "a transfer of others"
+    if is_theirs and its[0].decode() not in banks and not rights.instructions(site.messages, its):
+        yield "an answer without its instruction is theirs"
     seen = rights.on_transfer(rights.visible_on(banks, site.messages, its), its)
     if name == b"messages" and any(rights.shown(banks, site.messages, one) != one for one in seen):
         yield "a recall in part"
+    rivals = [one for one in rights.visible(banks, site.messages) if identity(one) in set(map(identity, seen))]
+    if any(not any(rights.is_theirs(banks, site.messages, key) for key in transfers(one)) for one in rivals):
+        yield "a contradiction by a message of others"
     if len({dict(one[2][0])["CdtrAgt"] for one in seen if one[0] == "pacs.008"}) > 1:
         yield "an instruction to several banks"
 

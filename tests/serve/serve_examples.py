@@ -243,7 +243,9 @@ def tenth(program, folder):
     yield "10: a confirmation waits for its instruction", answers(program, path, lives, b"READY -\n", WHOLE)
     lives = [(b"as BANKITMM " + sent(samples.confirmation, InstgAgt="BANKITMM"), b"FORBIDDEN beneficiary\n"),
              (b"as BANKITMM " + sent(samples.instruction, InstgAgt="BANKITMM"), b"FORBIDDEN originator 1\n"),
-             (b"as BANKITMM {}", b"REFUSED 33\n")]
+             (b"as BANKITMM {}", b"REFUSED 33\n"),
+             (b"as BANKDEFF " + sent(samples.recall, [samples.transaction(), samples.transaction(DbtrAgt="BANKITMM")]),
+              b"FORBIDDEN originator 2\n")]
     yield "10: no other bank speaks about it", answers(program, path, lives, b"READY 1:2\n", WHOLE)
     lives = [(b"? of BANKDEFF transfer BANKDEFF T1", text_of(line % b"ACCEPTED")),
              (b"? of BANQFRPP,BANKITMM transfer BANKDEFF T1", text_of(line % b"ACCEPTED")),
@@ -266,13 +268,21 @@ def tenth(program, folder):
                          text_of(REPORT_FOR_OTHER)),
                         (b"? of BANKITMM bank BANKITMM", text_of(b"BANKITMMXXX|0|0.00|0.00|0|0|0|0|0|0.00|0.00\n"))],
         b"READY 1:4\n", whole)
-    rivals = sent(samples.instruction, IntrBkSttlmAmt="7.00"), sent(samples.instruction, TxId="T9", CdtrAgt="BANKITMM")
+    lives = [(A2, b"TAKEN 1\n"), (b"? of BANQFRPP transfer BANKDEFF T1", text_of(line % b"MISSING")),
+             (b"? of BANKITMM transfer BANKDEFF T1", text_of(line % b"UNKNOWN")),
+             (b"as BANKDEFF " + sent(samples.instruction, CdtrAgt="BANKITMM"), b"TAKEN 2\n"),
+             (b"? of BANQFRPP transfer BANKDEFF T1", text_of(line % b"UNKNOWN")),
+             (b"? of BANKITMM transfer BANKDEFF T1", text_of(line % b"ACCEPTED"))]
+    yield "10: who answered too early sees its transfer until its instruction comes", answers(
+        program, folder / "tenth3", lives, b"READY -\n", HEAD + b" " + A2 + b"\n " + sent(
+            samples.instruction, CdtrAgt="BANKITMM") + b"\n\t")
+    rival = sent(samples.instruction, TxId="T9", CdtrAgt="BANKITMM")  # with the identity of A8
     finding = b"F|BANKDEFFXXX|T1|Identity|BANKDEFFXXX|pacs.008|M1\n"
-    lives = [(b"as BANKDEFF " + A8, b"TAKEN 1\n"), *((b"as BANKDEFF " + one, b"TAKEN %d\n" % number)
-                                                     for number, one in enumerate(rivals, 2)),
+    lives = [(b"as BANKDEFF " + A8, b"TAKEN 1\n"), (b"as BANKDEFF " + rival, b"TAKEN 2\n"),
+             (b"? of BANQFRPP messages BANKDEFF T1", text_of(TRANSFER_WRITTEN.encode())),
              (b"? of BANQFRPP transfer BANKDEFF T1", text_of(line % b"CONTRADICTED" + finding)),
              (b"? of BANQFRPP transfer BANKDEFF T9", text_of(b"T|BANKDEFFXXX|T9|UNKNOWN\n"))]
-    kept = HEAD + b"".join(b" %s\n" % one for one in (A8, *rivals)) + b"\t"
+    kept = HEAD + b" " + A8 + b"\n " + rival + b"\n\t"
     yield "10: a contradiction is seen, and not the message that contradicts", answers(
         program, folder / "tenth2", lives, b"READY -\n", kept)
 
