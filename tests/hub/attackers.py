@@ -357,6 +357,40 @@ def is_blind(trial):
         json.loads(health)) and not {"vector", "digests"} & set(json.loads(own))
 
 
+def stands_for_two(trial):
+    """A client that stands for two banks, as a direct participant does, and loses one of them."""
+    it = Secure(trial)
+    it.made.write_roles(hansdehh=["bank HANSDEHH", "bank LUTEFRPP"])
+    with it.site("two-banks") as hub:
+        lines = [instruction(HAN, SCA, 1, DbtrAgt=LUX), instruction(LUX, SCA, 2), instruction(SCA, HAN, 3),
+                 instruction(HAN, SCA, 4, DbtrAgt=SCA), confirmation(LUX, SCA, 5), recall(HAN, LUX, 1, 2)]
+        yield "it sends by one of them about a transfer of the other one, and by neither about a third bank's", it.words(
+            hub, "hansdehh", *lines) == ["TAKEN", "TAKEN", "FORBIDDEN", "FORBIDDEN", "WAITING", "TAKEN"]
+        yield "each for itself may not", it.words(hub, "lutefrpp", *lines[:1]) == ["FORBIDDEN"]
+
+        def got(who, path, body=None):
+            answer = it.asked(hub, path, body, who=who)
+            return answer.status, answer.body.decode()
+
+        seen = [got("hansdehh", f"/transfers/{LUX}/T{n}")[1].splitlines()[0] for n in (1, 2)]
+        totals = [got("hansdehh", f"/totals/{bank}")[0] for bank in (HAN, LUX, SCA)]
+        yield "it reads about both", (seen, totals) == ([f"T|{LUX}|T{n}|PENDING" for n in (1, 2)], [200, 200, 403])
+        yield "what waits is listed for each of its banks", [one["bank"] for one in map(
+            json.loads, got("hansdehh", "/waiting")[1].splitlines())] == [LUX]
+        answer = it.asked(hub, f"/report/{HAN}/2024-05-02", f"DbtrAgt,TxId,Amt,Sts\n{LUX},T2,1.00,PENDING\n".encode(),
+                          who="hansdehh")
+        yield "a row of one in the list of the other has a report, and a warning", answer.body.decode().splitlines()[
+            1:] == [f"{LUX},T2,MATCHED,1.00,PENDING,1.00,PENDING"] and json.loads(
+                answer.headers["Niluppang-Notes"]) == [f"row 2: {LUX} T2 is a transfer to {SCA}, and not of {HAN}"]
+        it.made.write_roles(hansdehh=["bank HANSDEHH"])
+        hub.process.send_signal(signal.SIGHUP)
+        yield "a bank that is taken away is read no more", until(
+            lambda: got("hansdehh", f"/transfers/{LUX}/T2")[0] == 403)
+        it.words(hub, "operator", instruction(SCA, LUX, 5))
+        yield "nor is what waits in its name taken", until(lambda: recorded(hub)[-1][0] == "forbidden") and got(
+            "desk", f"/transfers/{SCA}/T5")[1] == f"T|{SCA}|T5|PENDING\n"
+
+
 def answers_recalls(it, hub):
     """Refusals of recalls in XML. T1 and T31 from LUX are recalled, and T40 is not."""
     it.words(hub, "lutefrpp", instruction(LUX, SCA, 40))
@@ -879,7 +913,7 @@ def peer_certificate(it, hub):
             return connection.getpeercert()["serialNumber"]
 
 
-CHECKS = [describes_itself, strangers, each_role, banks, is_blind, floods, reads_long_texts, crowds, on_record, peers,
+CHECKS = [describes_itself, strangers, each_role, banks, stands_for_two, is_blind, floods, reads_long_texts, crowds, on_record, peers,
           overtakes, goes_on, handed_on,
           insiders, other_roles, new_certificates, certificates_are_kept]
 

@@ -383,7 +383,8 @@ def fills_the_disk(trial):
         yield "of one transfer some thousand messages are taken, and the bank is told", words == [
             "TAKEN"] * 2000 + ["FORBIDDEN"] * 2, str(
                 [words.count(word) for word in ("TAKEN", "FORBIDDEN")])
-        yield "other transfers go on", posts(it, hub, "lutefrpp", 3)
+        yield "other transfers go on, and the beneficiary bank answers", posts(it, hub, "lutefrpp", 3) and it.words(
+            hub, "scalbebb", confirmation(SCA, LUX, 2)) == ["TAKEN"]
 
 
 def has_a_quota(trial):
