@@ -8,8 +8,8 @@ from __future__ import annotations
 import re
 from typing import Collection
 
-# a text with its quotes, also one that is never closed; or blanks
-TEXT_OR_BLANKS = re.compile(rb'"(?:[^"\\]|\\.)*+"?|[ \t\r]++', re.DOTALL)
+# blanks; and a text with its quotes, also one that is never closed, or blanks
+BLANKS, TEXT_OR_BLANKS = re.compile(rb"[ \t\r]++"), re.compile(rb'"(?:[^"\\]|\\.)*+"?|[ \t\r]++', re.DOTALL)
 ALONE = b"{}[],:"  # of JSON: what ends a word without a blank
 # a message has this key; in a text with a backslash it may be written in another way
 KEY, ESCAPE = b"MsgNmId", b"\\"
@@ -30,13 +30,15 @@ def may_be_message(line: bytes) -> bool:
     return KEY in line or ESCAPE in line
 
 
+def are_beside(line: bytes, start: int, end: int) -> bool:
+    """Whether blanks of a line are at one of its ends, or beside a sign that stands alone."""
+    return line[max(0, start - 1):start] in ALONE or line[end:end + 1] in ALONE
+
+
 def without_blanks(line: bytes) -> bytes:
     """A line of JSON without blanks that say nothing: those outside texts, at its ends and beside signs. It says what
     it said, and what was no JSON is none."""
-    def kept(match: re.Match[bytes]) -> bytes:
-        if match[0][:1] == b'"':
-            return match[0]
-        start, end = match.span()
-        before, after = line[max(0, start - 1):start], line[end:end + 1]
-        return b"" if before in ALONE or after in ALONE else b" "
-    return TEXT_OR_BLANKS.sub(kept, line)
+    if not any(are_beside(line, *match.span()) for match in BLANKS.finditer(line)):
+        return line
+    return TEXT_OR_BLANKS.sub(
+        lambda match: b"" if match[0][:1] != b'"' and are_beside(line, *match.span()) else match[0], line)

@@ -268,8 +268,8 @@ def says_why(core):
 
 def leaves_blanks_out(core):
     bare = {b' { "a" : "b  c" , "d\\" e" : [ 1 , 2 ] } \r': b'{"a":"b  c","d\\" e":[1,2]}',
-            b'{"a":\t\r "x"}': b'{"a":"x"}', b'{"a": tr  ue}': b'{"a":tr ue}', b'1  2': b"1 2",
-            b'"a"\t "b"': b'"a" "b"', b'{"a  b': b'{"a  b', b'"a  \\': b'"a  \\', b" \t\r": b"", b"": b"",
+            b'{"a":\t\r "x"}': b'{"a":"x"}', b'{"a": tr  ue}': b'{"a":tr  ue}', b'1  2': b"1  2",
+            b'"a"\t "b"': b'"a"\t "b"', b'{"a  b': b'{"a  b', b'"a  \\': b'"a  \\', b" \t\r": b"", b"": b"",
             b'{"a":"\\\\" , "b":"  "}': b'{"a":"\\\\","b":"  "}', b'{"a" "b"}': b'{"a" "b"}'}
     yield "blanks outside texts are left out", {it: senders.without_blanks(it) for it in bare} == bare
     r, right = random.Random(SEED), []
