@@ -169,7 +169,7 @@ class ForBanks:
         # line feeds are tabs in a question: a record with a tab of its own is wrong, and stays so with another
         # character
         listed = rows.replace(b"\t", b"\x01").replace(b"\n", b"\t")
-        banks = self.seen_by(request) or frozenset([whole_bank(bank)])
+        banks = frozenset([whole_bank(bank)]) if request["sees_all"] else request["who"].banks
         question = words_of(b"report", bank.encode(), day.encode(), banks) + b" " + listed
         answer, = await self._answers([question], banks)
         return answer.text, await self._noted(request, bank, day, rows, names)
