@@ -3,8 +3,7 @@ and all.
 
 - messages a second that are acknowledged at one site, and at three sites that exchange, for posts of 1, 10 and 100
 messages by 4 clients: one
-  after the other without TLS and roles, with both by an operator, and with both by a bank, whose lines the library
-  reads first;
+  after the other without TLS and roles, with both by an operator, and with both by a bank, in whose name they are;
 - how long it takes until a peer shows a message: the median and the 99th of 100, without load and under load;
 - a site with a journal of a million messages: its start, its memory, and its first answer.
 
@@ -99,7 +98,7 @@ def memory(process):
 
 
 @contextlib.contextmanager
-def hub_of(python, program, running, who, library, *more):
+def hub_of(python, program, running, who, *more):
     """A hub of some sites, which words may say more of: its ports, and its certificates if it has TLS."""
     port = sites.free_ports(3)
     with tempfile.TemporaryDirectory() as folder:
@@ -107,18 +106,18 @@ def hub_of(python, program, running, who, library, *more):
         config = made.configured(data, list(range(1, running + 1)), port) if who else None
         words = [] if who else [f"--port={port}", "--group=64", f"--sites={','.join(map(str, range(1, running + 1)))}",
                                 *more]
-        with sites.Hub(python, program, data, *words, config=config, NILUPPANG_LIBRARY=library):
+        with sites.Hub(python, program, data, *words, config=config):
             ports = [port + site for site in range(running)]
             sites.until(lambda: all(made.is_well(one) if who else sites.is_well(one) for one in ports))
             yield ports, made
 
 
-def rates(python, program, many, library):
+def rates(python, program, many):
     """The rates of each way, one after the other. Of a bank not more lines are posted than it may post at once."""
     lines = [inputs.instruction(number).encode() for number in range(many)]
     for running, (size, share) in itertools.product((1, 3), ((1, 20), (10, 4), (100, 1))):
         for who, way in WAYS.items():
-            with hub_of(python, program, running, who, library) as (ports, made):
+            with hub_of(python, program, running, who) as (ports, made):
                 its = lines[:min(many // share, 20_000) if who == "bank" else many // share]
                 a_second, rest = rate(ports, its, size, made, who)
                 print(f"{running} sites, posts of {size}, {way}: {a_second:.0f} messages a second acknowledged; all "
@@ -129,7 +128,7 @@ def acknowledged(python, program, many, peers):
     """The rates of three sites whose posts are answered at once, and after some peers hold them, in turn."""
     lines = [inputs.instruction(number).encode() for number in range(many)]
     for (size, share), more in itertools.product(((1, 20), (10, 4), (100, 1)), (0, peers)):
-        with hub_of(python, program, 3, None, "", f"--acknowledge={more}") as (ports, _):
+        with hub_of(python, program, 3, None, f"--acknowledge={more}") as (ports, _):
             a_second, rest = rate(ports, lines[:many // share], size)
             print(f"3 sites, posts of {size}, held by {more} peers: {a_second:.0f} messages a second acknowledged; "
                   f"all sites equal {rest:.2f} s after the last", flush=True)
@@ -137,7 +136,7 @@ def acknowledged(python, program, many, peers):
 
 def shown(python, program, many):
     """How long it takes until a peer shows a message."""
-    with hub_of(python, program, 3, None, "") as (ports, _):
+    with hub_of(python, program, 3, None) as (ports, _):
         print("a peer shows a message, without load (ms, median and 99th):", delays(*ports[:2], 10 ** 6)[0], flush=True)
         ends = threading.Event()
         extra = [line.encode() for line in messages.lines(many * 4, 7)]
@@ -209,8 +208,7 @@ def main():
     if asked.acknowledge:
         return acknowledged(python, program, asked.messages, asked.acknowledge)
     if asked.messages:
-        with sites.library() as library:
-            rates(python, program, asked.messages, library)
+        rates(python, program, asked.messages)
         shown(python, program, asked.messages)
     if asked.large:
         large(python, program, asked.large)

@@ -174,14 +174,13 @@ PACKAGES.update({name: ["gcc"] for name in [*CHECKS["embed"], "c_times"]})
 PACKAGES.update({name: ["python3-aiohttp"] for name in ["troubles", "processes", "replaced", "acknowledged", "journals",
                                                         "limits", "peers", "operators",
                                                         "forks", "rolls", "mirrors", "flips", "evidence"]})
-PACKAGES["release"], PACKAGES["senders"], PACKAGES["clients"] = (["gcc", "python3-aiohttp"], ["gcc"],
-                                                                 ["python3-aiohttp", "openssl"])
-PACKAGES.update({name: ["python3-aiohttp", "gcc", "openssl"]
-                 for name in ["kills", "fires", "attackers", "harms", "rights", "clocks", "waits"]})
+PACKAGES["release"], PACKAGES["clocks"] = ["gcc", "python3-aiohttp"], ["python3-aiohttp", "gcc", "openssl"]
+PACKAGES.update({name: ["python3-aiohttp", "openssl"]
+                 for name in ["clients", "kills", "fires", "attackers", "harms", "rights", "waits"]})
 PACKAGES["packages"] = ["gcc", "python3-aiohttp", "lintian", "systemd", "adduser", "nginx-light",
                         "libnginx-mod-stream", "prometheus", "openssl",
                         "pkg-config", "man-db"]
-PACKAGES["first_steps"] = ["python3-aiohttp", "gcc", "openssl", "curl"]
+PACKAGES["first_steps"] = ["python3-aiohttp", "openssl", "curl"]
 PACKAGES["java"] = ["libjna-java", "openjdk-17-jdk-headless", "gcc"]
 PACKAGES["page"] = ["python3-aiohttp", "chromium"]
 PACKAGES["parts"] = ["python3-dask", "python3-distributed", "python3-cryptography", "openssl"]

@@ -271,8 +271,8 @@ def hub(found: dict[str, bytes]) -> Package:
         files[DOC + "niluppang-hub/examples/" + path.split("/")[-1] if is_example else HUB + path] = entry(path,
                                                                                                            its[path])
     fields = control("niluppang-hub", "all",
-                     Depends=f"niluppang (= {REVISION}), python3-niluppang (= {REVISION}), python3 (>= 3.11), "
-                     f"{AIOHTTP}, adduser", Suggests="libnginx-mod-stream, openssl, prometheus")
+                     Depends=f"niluppang (= {REVISION}), python3 (>= 3.11), {AIOHTTP}, adduser",
+                     Suggests="libnginx-mod-stream, openssl, prometheus")
     return Package(fields, files, {"postinst": HUB_POSTINST, "prerm": HUB_PRERM, "postrm": HUB_POSTRM}, OF_HUB)
 
 

@@ -10,6 +10,7 @@ import binascii
 import hashlib
 import re
 from typing import Any, NamedTuple
+from . import limits
 from .addresses import EVERYONE, PLAIN_ROLES
 from .config import parsed
 from .files import Wrong
@@ -59,6 +60,8 @@ def who_of(name: str, texts: list[str]) -> Who:
         elif text not in PLAIN_ROLES:
             raise Wrong(f"{text!r} of {name} is not a role: peer N, bank BIC, {', '.join(PLAIN_ROLES)}")
         roles.add(word)
+    if len(banks) > limits.BANKS_MOST:
+        raise Wrong(f"{name} has {len(banks)} banks, and a client sends in the names of {limits.BANKS_MOST} at most")
     return Who(name, frozenset(roles), frozenset(banks), frozenset(peers))
 
 
@@ -158,9 +161,7 @@ class Roles:
         holders = self._holders(certificate)
         return len(holders) == 1 and number in holders.pop().peers
 
-    def may_send(self, name: str, bank: str) -> bool:
-        """Whether somebody of a name sends in the name of a bank."""
-        return self.is_open or any(who.name == name and bank in who.banks for who in self.all)
-
-    def has_banks(self) -> bool:
-        return any(who.banks for who in self.all)
+    def banks_of(self, name: str, bank: str) -> frozenset[str]:
+        """The banks in whose names somebody of a name sends, who sent for a bank: for that one, without a file."""
+        return frozenset([bank]) if self.is_open else next((who.banks for who in self.all if who.name == name),
+                                                           frozenset())

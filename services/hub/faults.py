@@ -8,7 +8,7 @@ from typing import Any
 from . import limits
 from .errors import CODES, said_of
 
-MEMORY, FORK_NUMBERS, BAD_LIST = 65, {41, 42, 43}, 48  # numbers of the program
+MEMORY, FORK_NUMBERS, BAD_LIST, NOT_YOURS = 65, {41, 42, 43}, 48, 79  # numbers of the program
 # the name of each HTTP status, and what to do
 STATUSES = {
     400: ("Wrong", "correct the request; it is not sent again as it is"),
@@ -121,6 +121,10 @@ class Refused(Fault):
         super().__init__(text)
         self.number, self.text = int(text.split()[0]), text
         self.status = 503 if self.number == MEMORY else 409 if self.number in FORK_NUMBERS else 400
+
+    def place(self) -> int:
+        """The place in what is wrong, which follows some numbers."""
+        return int(self.text.split()[1])
 
 
 class Halted(Fault):

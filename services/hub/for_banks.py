@@ -1,26 +1,26 @@
 """for_banks.py: what banks post and ask, and the desk with them. What a request costs is charged to who asks
 (costs.py).
 
-A bank asks about itself and about transfers of its own alone. It learns nothing of others, also not by what a message
-of its own lacks.
+Each question of a bank is asked for the banks of its client, so that the core decides what it is shown: of transfers of
+others it gets the answers of a hub that holds nothing.
 """
 from __future__ import annotations
 import asyncio
 import json
-from typing import Any
+from typing import Any, Callable
 from aiohttp import web
-from . import iso, limits, senders
+from . import iso, limits, lists
 from .access import Who, bank as whole_bank
 from .converting import Converters
 from .costs import price
-from .faults import BAD_LIST, BadText, Forbidden, Refused, TooLong, Unable
+from .faults import BAD_LIST, NOT_YOURS, BadText, Forbidden, Refused, TooLong, Unable
 from .front import CSV, LINES, TEXT, Front
 from .parts import Parts
 from .posts import Asker
-from .questions import on_transfer, words_of
+from .questions import on_transfer, without_banks, words_of
 from .shares import Shares
 from .waiting import Waiting
-from .work import outcome_line
+from .work import Answer, outcome_line
 
 SHOWN_CELLS = ("number", "at", "until", "bank", "kind", "originator", "tx", "request", "state", "outcome", "ended")
 AS_SAVED = "the list was read as a spreadsheet saves it"
@@ -83,7 +83,8 @@ class ForBanks:
         async with self.front.body(request, self.shares.bodies) as text:
             self.bounded(request["who"], len(text) // limits.XML_LINE_BYTES)
             drafts = await self.converters.drafts(request["who"].name, text)
-            items = await iso.lines_of(drafts, lambda bank, tx: self._looked_up(request, bank, tx))
+            banks = None if request["who"].may(("operator",)) else request["who"].banks
+            items = await iso.lines_of(drafts, lambda bank, tx: self.keeper.ask(on_transfer(bank, tx, banks)))
             lines = [item.line for item in items if item.line is not None]
             self.bounded(request["who"], len(lines))
             self.counted(request["who"], lines)
@@ -91,15 +92,21 @@ class ForBanks:
         answers = [iso.outcome_line(item, None if item.line is None else next(outcomes)) for item in items]
         return await self.front.sent(request, "".join(answers).encode(), LINES)
 
-    async def _looked_up(self, request: web.Request, bank: str, tx: str) -> bytes:
-        """The messages on a transfer, for who asks: a bank learns nothing of transfers of others by what a message of
-        its own lacks."""
-        text = bytes(await self.keeper.ask(on_transfer(bank, tx)))
-        is_own = request["who"].may(("operator",)) or await asyncio.to_thread(senders.may_read, request["who"].banks,
-                                                                              whole_bank(bank), tx, text)
-        return text if is_own else b""
-
     # ---- what is asked
+
+    @staticmethod
+    def seen_by(request: web.Request) -> frozenset[str] | None:
+        """The banks for which somebody asks. None if it sees all."""
+        return None if request["sees_all"] else request["who"].banks
+
+    async def _answers(self, questions: list[bytes], banks: frozenset[str] | None) -> list[Answer]:
+        """What is answered to questions for some banks. Forbidden if a bank asks about another one."""
+        try:
+            return await self.keeper.ask_all(questions)
+        except Refused as refused:
+            if refused.number == NOT_YOURS:
+                raise Forbidden("a bank asks about itself alone") from None
+            raise refused if banks is None else without_banks(refused) from None
 
     async def waiting(self, request: web.Request) -> web.StreamResponse:
         """The lines that wait for their instruction, and those that ended in the last days: a bank's own, or all."""
@@ -113,55 +120,40 @@ class ForBanks:
             text = await asyncio.to_thread(waiting_text, rows)
         return await self.front.sent(request, text, LINES, self.shares.answers)
 
-    def must_be_own(self, request: web.Request, bank: str) -> None:
-        """Forbidden if a bank asks about another bank."""
-        if not request["sees_all"] and whole_bank(bank) not in request["who"].banks:
-            raise Forbidden("a bank asks about itself alone")
-
-    async def must_see(self, request: web.Request, bank: bytes, tx: bytes) -> None:
-        """Forbidden if a bank asks about a transfer that is not one of its own, or is not there: it learns nothing of
-        others."""
-        if request["sees_all"]:
-            return
-        self.charged(request, 1)
-        originator = whole_bank(bank.decode())
-        text = bytes(await self.keeper.ask(words_of(b"messages", bank, tx)))
-        self.charged(request, min(len(text) // limits.LINE_COST_BYTES, limits.POST_MOST_LINES))
-        if not await asyncio.to_thread(senders.may_read, request["who"].banks, originator, tx.decode(), text):
-            raise Forbidden("it is not a transfer of this bank")
-
     async def transfer(self, request: web.Request, bank: bytes, tx: bytes, is_messages: bool) -> web.StreamResponse:
-        """One transfer, or its messages."""
+        """One transfer, or its messages. A bank is charged for the messages that it may see. Forbidden if there are
+        none, unless it is the originator bank: so a transfer of others is like one that is not there."""
+        banks = self.seen_by(request)
+        names = [*([b"messages"] if is_messages or banks is not None else []), *([] if is_messages else [b"transfer"])]
         async with self.shares.asked.turn(request["who"].name):
-            await self.must_see(request, bank, tx)
-            name = b"messages" if is_messages else b"transfer"
-            text: bytes | bytearray = await self.keeper.ask(words_of(name, bank, tx))
-            if is_messages and not request["sees_all"]:
-                text = await asyncio.to_thread(senders.shown, request["who"].banks, whole_bank(bank.decode()),
-                                               tx.decode(), text)
-        return await self.front.sent(request, text, LINES if is_messages else TEXT, self.shares.answers)
+            self.charged(request, 1)
+            answers = await self._answers([words_of(name, bank, tx, banks) for name in names], banks)
+            if banks is not None:
+                self.charged(request, min(len(answers[0].text) // limits.LINE_COST_BYTES, limits.POST_MOST_LINES))
+                if not answers[0].text and whole_bank(bank.decode()) not in banks:
+                    raise Forbidden("it is not a transfer of this bank")
+        return await self.front.sent(request, answers[-1].text, LINES if is_messages else TEXT, self.shares.answers)
 
     async def bank_totals(self, request: web.Request) -> web.StreamResponse:
-        self.must_be_own(request, request.match_info["bank"])
         self.charged(request, limits.TOTALS_COST_LINES)
+        banks = self.seen_by(request)
         async with self.shares.totals.turn(request["who"].name, not request["sees_all"]):
-            text = await self.keeper.ask(words_of(b"bank", request.match_info["bank"].encode()))
-        return await self.front.sent(request, text, TEXT, self.shares.answers)
+            answer, = await self._answers([words_of(b"bank", request.match_info["bank"].encode(), banks=banks)], banks)
+        return await self.front.sent(request, answer.text, TEXT, self.shares.answers)
 
     # ---- reports
 
     async def report(self, request: web.Request) -> web.StreamResponse:
         bank, day = request.match_info["bank"], request.match_info["day"]
-        self.must_be_own(request, bank)
         turn = self.shares.reports.turn(request["who"].name, not request["sees_all"])
         async with self.front.body(request, self.shares.lists) as rows, turn:
-            senders.must_be_words(bank, day)
+            lists.must_be_words(bank, day)
             try:
                 text, notes = await self._compared(request, bank, day, rows)
             except Refused as refused:
                 if refused.number != BAD_LIST:
                     raise
-                rows = await asyncio.to_thread(senders.of_spreadsheet, rows, refused.text)
+                rows = await asyncio.to_thread(lists.of_spreadsheet, rows, refused.text)
                 text, notes = await self._compared(request, bank, day, rows)
                 notes = [AS_SAVED, *notes]
         self.front.must_may(request)
@@ -169,47 +161,58 @@ class ForBanks:
         headers = {"Content-Disposition": file, **({"Niluppang-Notes": json.dumps(notes)} if notes else {})}
         return await self.front.sent(request, text, CSV, self.shares.answers, headers)
 
-    async def _compared(self, request: web.Request, bank: str, day: str, rows: bytes) -> tuple[bytes, list[str]]:
-        """The report on a list, and what its head says of rows. Refused if it is no list as the program reads it."""
-        names = await asyncio.to_thread(senders.rows_of_list, rows, not request["sees_all"])
+    async def _compared(self, request: web.Request, bank: str, day: str, rows: bytes) -> tuple[bytearray, list[str]]:
+        """The report on a list, and what its head says of rows. Refused if it is no list as the program reads it. That
+        of the desk is made for the bank, too, which may be given it."""
+        names = await asyncio.to_thread(lists.rows_of_list, rows, not request["sees_all"])
         self.charged(request, len(names))
         # line feeds are tabs in a question: a record with a tab of its own is wrong, and stays so with another
         # character
-        question = words_of(b"report", bank.encode(), day.encode()) + b" " + rows.replace(b"\t", b"\x01").replace(b"\n",
-                                                                                                                  b"\t")
-        text = await self.keeper.ask(question)
-        # what the report has seen is held now, too: so it is checked afterwards, and nothing can come in between
-        return text, await self._checked(request, bank, day, rows, names)
+        listed = rows.replace(b"\t", b"\x01").replace(b"\n", b"\t")
+        banks = frozenset([whole_bank(bank)]) if request["sees_all"] else request["who"].banks
+        question = words_of(b"report", bank.encode(), day.encode(), banks) + b" " + listed
+        answer, = await self._answers([question], banks)
+        return answer.text, await self._noted(request, bank, day, rows, names)
 
-    async def _checked(self, request: web.Request, bank: str, day: str, rows: bytes,
-                       names: list[tuple[str, str]]) -> list[str]:
-        """What the head of a report says of rows of another day, or of a list without rows. No report is sent if a list
-        has rows on transfers of other banks: what is known of them is for the record and for the desk."""
+    async def _noted(self, request: web.Request, bank: str, day: str, rows: bytes,
+                     names: list[tuple[str, str]]) -> list[str]:
+        """What the head of a report says of rows of another day, of a list without rows, and to a client of several
+        banks of rows that are those of another one. The desk gets no report on a list with rows of other banks: it is
+        the list of another one."""
         is_bounded, sizes = not request["sees_all"], []
 
-        def held(text: bytes, originator: str, tx: str) -> Any:
+        def held(text: bytes, originator: str, tx: str) -> tuple[list[Any], set[str]]:
             if is_bounded and originator != whole_bank(bank):
-                sizes.append(len(senders.deciding(text)))
+                sizes.append(sum(map(len, lists.lines_in(text))))
                 if sum(sizes) > limits.LOOKED_UP_MOST_BYTES:
                     raise TooLong("the list names transfers with too many messages: cut it")
-            return senders.held_on(text, originator, tx)
-        known = await self.parts.posts.looked_up(names, held)
-        faults, notes = await asyncio.to_thread(senders.list_findings, bank, day, rows, known, is_bounded)
-        if faults:
-            self._no_report(request, faults)
+            return lists.held_on(text, originator, tx)
+        known = await self._looked_up(names, self.seen_by(request), held)
+        of_others, notes = await asyncio.to_thread(lists.findings, bank, day, rows, known, is_bounded)
+        if of_others and request["sees_all"]:
+            others = " and others" if len(of_others) > limits.NAMED_MOST_ROWS else ""
+            raise BadText(f"there is no report on this list: {'; '.join(of_others[:limits.NAMED_MOST_ROWS])}{others}")
         most = limits.NOTED_MOST_ROWS
         more = [f"and {len(notes) - most} other rows of other days"] if len(notes) > most else []
-        return [*notes[:most], *more]
+        return [*of_others[:most], *notes[:most], *more]
 
-    def _no_report(self, request: web.Request, faults: list[str]) -> None:
-        """Says which rows are transfers of other banks, and to the desk which banks these are."""
-        more = " and others" if len(faults) > limits.NAMED_MOST_ROWS else ""
-        if request["sees_all"]:
-            raise BadText(f"there is no report on this list: {'; '.join(faults[:limits.NAMED_MOST_ROWS])}{more}")
-        self.parts.record.note("list", request["who"].name, request["address"], request["id"],
-                               {"rows": len(faults), "first": faults[0]})
-        named = ", ".join(text.partition(":")[0] for text in faults[:limits.NAMED_MOST_ROWS])
-        raise Forbidden(f"no transfer of this bank: {named}{more}")
+    async def _looked_up(self, transfers: list[tuple[str, str]], banks: frozenset[str] | None,
+                         seen: Callable[[bytes, str, str], Any]) -> dict[tuple[str, str], Any]:
+        """What a function sees in the text of the messages on each of some transfers, as some banks are shown it. Not
+        more texts than a few are there at a time."""
+        results = {}
+        for place in range(0, len(transfers), limits.ASKED_AT_ONCE):
+            some = transfers[place:place + limits.ASKED_AT_ONCE]
+            questions = [on_transfer(*transfer, banks) for transfer in some]
+            answers = await self.keeper.ask_all(questions, limits.SHORT_TEXT_BYTES)
+            short = [(transfer, answer.text) for transfer, answer in zip(some, answers) if not answer.is_cut]
+            results.update(await asyncio.to_thread(lambda: {transfer: seen(bytes(text), *transfer)
+                                                            for transfer, text in short}))
+            # a long text is there alone
+            for question, transfer, answer in zip(questions, some, answers):
+                if answer.is_cut:
+                    results[transfer] = await asyncio.to_thread(seen, bytes(await self.keeper.ask(question)), *transfer)
+        return results
 
 
 def waiting_text(rows: list[Waiting]) -> bytes:

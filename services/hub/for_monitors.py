@@ -50,10 +50,12 @@ class ForMonitors:
         faults = self.faults() + self.forks()
         keeper, holding, marks = self.keeper, self.keeper.holding, self.keeper.marks
         peers = {peer.number: peer.fault or "" for peer in self.parts.peers.all}
-        state = {"site": keeper.number, "group": keeper.group, "version": self.parts.version, "vector": holding.vector,
-                 "well": not faults, "faults": faults,
-                 "peers": peers,
-                 "digests": {its.origin: f"{its.number}:{its.digits}" for its in holding.digests.values()}}
+        state = {"site": keeper.number, "group": keeper.group, "version": self.parts.version,
+                 "well": not faults, "faults": faults, "peers": peers}
+        # who may not ask how much is held is not told by this: digests would let a bank try what others hold
+        if request["who"].may(self.front.rules["GET", "/vector"].roles):
+            state["vector"] = holding.vector
+            state["digests"] = {its.origin: f"{its.number}:{its.digits}" for its in holding.digests.values()}
         if marks.forks:
             state["forks"] = {origin: first for origin, (first, _) in sorted(marks.forks.items())}
         if marks.closed:

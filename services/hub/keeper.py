@@ -4,7 +4,7 @@
 from __future__ import annotations
 import asyncio
 import contextlib
-from typing import Iterable
+from typing import Collection, Iterable
 from . import limits
 from .changes import CHANGES, Watch
 from .digests import Digest
@@ -15,7 +15,7 @@ from .marks import Marks
 from .rounds import Rounds
 from .starts import Core, Starts
 from .vectors import origin_in
-from .work import Answer, Disk, Outcome, Queue, answer_of, as_message, outcome_of
+from .work import Answer, Disk, Outcome, Queue, answer_of, as_message, in_names, outcome_of
 
 
 class Keeper:
@@ -65,17 +65,11 @@ class Keeper:
 
     # ---- what is asked of it
 
-    async def take(self, lines: list[bytes]) -> list[Outcome]:
-        """The outcome of each line, after it is in the journal."""
+    async def take(self, lines: list[bytes], banks: Collection[str] | None = None) -> list[Outcome]:
+        """The outcome of each line, after it is in the journal: in the names of some banks, or in any name."""
         self.marks.must_take()
-        return list(map(outcome_of, (await self.queue.ask("take", list(map(as_message, lines)), 0)).replies))
-
-    def refused(self, text: str) -> Outcome:
-        """The outcome of a line that the library refuses as the process would, which is counted as well."""
-        outcome, numbers = Outcome("REFUSED", int(text.split()[0]), text), self.rounds.measured.numbers
-        numbers["REFUSED"] += 1
-        numbers[outcome.number] += 1
-        return outcome
+        requests = [as_message(line) if banks is None else in_names(banks, line) for line in lines]
+        return list(map(outcome_of, (await self.queue.ask("take", requests, 0)).replies))
 
     async def accept(self, delta: bytes) -> int:
         """How many entries of a delta are new. It has tabs for line feeds. Refused if it has entries of an origin that

@@ -128,6 +128,7 @@ ASKED_MOST_OF_ONE = 8  # of one
 
 # ---- banks
 
+BANKS_MOST = 16  # in whose names one client sends
 POST_MOST_LINES = 20000  # of a post
 LINE_MOST_BYTES = 64 << 10  # a recall of 100 transactions has some 40,000
 XML_LINE_BYTES = 500  # of XML that cost a bank as much as a line
@@ -140,9 +141,8 @@ NAMED_MOST_ROWS = 20  # of a list that an answer names
 POSTS_LOOK_SECONDS = 5.0
 ASKED_AT_ONCE = 100  # questions that are asked together
 SHORT_TEXT_BYTES = 1 << 16  # of a text that is asked for together with others
-# of banks on one, since the site began: with very many, each further one costs all who post
+# of one client on one, since the site began: with very many, each further one costs all who post
 TRANSFER_MOST_MESSAGES = 2000
-WITHHELD_MOST_LINES = 100  # in the name of another bank, of one post, that the record names
 LIST_MOST_ROWS = 20000  # of a list whose rows are looked up
 LIST_MOST_BYTES = 2 << 20  # of it: a right row has some 80 bytes at most
 JUMP_LEAST_SECONDS = 2.0  # between two looks by which the two clocks differ, if that is a jump

@@ -1,9 +1,7 @@
-"""places.py: where the parts are that a site uses beside its program: the Python package of the library, and the tools
-of the desk.
+"""places.py: where the tools of the desk are that a site uses beside its program.
 
-A clone and a release have both in folders of their own. In Debian the package is installed for every program. In a
-release and in Debian the tools of the desk are beside the services. Such a folder is among those that Python looks in
-only while a module of it is loaded.
+A clone has them in a folder of its own. In a release and in Debian they are beside the services. The folder is among
+those that Python looks in only while a module of it is loaded.
 """
 from __future__ import annotations
 import functools
@@ -16,10 +14,7 @@ from .files import Wrong
 
 TOP = pathlib.Path(__file__).resolve().parents[2]  # a clone, or share/niluppang of a release or of Debian
 PACKAGE = "niluppang"
-PACKAGES = [TOP / "bindings" / "python", TOP / "python"]  # of a clone, of a release
 DESKS = [TOP / "tools" / "desk", TOP / "desk"]  # of a clone, of a release or of Debian
-NO_PACKAGE = ("there is no Python package niluppang, which reads lines as the program does: Debian's package "
-              "python3-niluppang has it, a clone has it in bindings/python, and a release in share/niluppang/python")
 NO_TOOL = ("there is no {}.py of the desk: Debian's package niluppang has it in /usr/share/niluppang/desk, a "
            "clone has it in tools/desk, and a release in share/niluppang/desk")
 
@@ -33,18 +28,17 @@ def of_release(top: pathlib.Path = TOP) -> pathlib.Path | None:
     return program if (top.parent.name, top.name) == ("share", PACKAGE) and program.is_file() else None
 
 
-def loaded(name: str, folder: pathlib.Path | None = None) -> types.ModuleType:
-    """The module or the package of a name, which must be that of a folder if one is named."""
+def loaded(name: str, folder: pathlib.Path) -> types.ModuleType:
+    """The module of a name, which must be that of a folder."""
     with one_at_a_time:
-        sys.path[:0] = [str(folder)] if folder else []
+        sys.path[:0] = [str(folder)]
         try:
             module = importlib.import_module(name)
         finally:
-            if folder:
-                sys.path.remove(str(folder))
+            sys.path.remove(str(folder))
     if module.__file__ is None:
         raise ImportError(f"there is a folder {name} without a module")
-    if folder and folder not in pathlib.Path(module.__file__).resolve().parents:
+    if folder not in pathlib.Path(module.__file__).resolve().parents:
         raise Wrong(f"the module {name} is {module.__file__}, and is needed of {folder}")
     return module
 
@@ -52,15 +46,6 @@ def loaded(name: str, folder: pathlib.Path | None = None) -> types.ModuleType:
 def first_with(folders: list[pathlib.Path], path: str) -> pathlib.Path | None:
     """The first of some folders that has a file, or None."""
     return next((folder for folder in folders if (folder / path).is_file()), None)
-
-
-@functools.lru_cache(maxsize=None)
-def niluppang_package() -> types.ModuleType:
-    """The Python package of the library. The library itself is loaded when something of it is called."""
-    try:
-        return loaded(PACKAGE, first_with(PACKAGES, f"{PACKAGE}/__init__.py"))
-    except ImportError as fault:
-        raise Wrong(f"{NO_PACKAGE} ({fault})") from None
 
 
 @functools.lru_cache(maxsize=None)

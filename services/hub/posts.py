@@ -1,17 +1,19 @@
-"""posts.py: what becomes of lines that somebody posts: in whose name they are, what the record has of it, and what
-waits for its instruction.
+"""posts.py: what becomes of lines that somebody posts: in whose names they are handed on, what the record has of it,
+and what waits for its instruction.
 
-A bank posts in its own name alone. Its lines are handed on as the core writes them, since blanks and escapes would fill
-the journal. A transfer with very many messages takes no more of them. An answer of a beneficiary bank whose instruction
-is not held yet waits on the disk. It is taken when the instruction comes, be it from a client or from a peer, and after
-some time without one it is given up. What is handed to the process is in the record before.
+A bank posts in the names of its client alone: the core decides. Its lines are handed on without blanks, which would
+fill the journal. A client posts no more than some messages on one transfer. An answer of a beneficiary bank whose
+instruction is not held yet waits on the disk. It is handed on again when something came on its transfer, be it from a
+client or from a peer, and after some time without its instruction it is given up. What is handed to the process is in
+the record before.
 """
 from __future__ import annotations
 import asyncio
 import collections
+import itertools
 import logging
 import time
-from typing import Any, Callable, Iterable, NamedTuple
+from typing import Callable, NamedTuple
 from . import chain, limits, senders, waiting
 from .access import Who
 from .acknowledge import Copies
@@ -20,7 +22,7 @@ from .costs import Often
 from .faults import Busy, Halted, Refused, Unable
 from .changes import Changes
 from .keeper import Keeper
-from .questions import on_transfer
+from .naming import Named, named_in
 from .record import Record
 from .work import Outcome
 
@@ -35,23 +37,23 @@ class Asker(NamedTuple):
 
 
 class Posts:
-    """The lines that clients post. `reader` reads lines as the core does: it is needed if a bank has a role."""
+    """The lines that clients post."""
     names: set[tuple[str, str]]
     changed: set[tuple[str, str]]
+    fresh: list[waiting.Waiting]
     task: asyncio.Task[None] | None
-    reader: senders.Reader | None
-    may_send: Callable[[str, str], bool]
+    banks_of: Callable[[str, str], frozenset[str]]
 
-    def __init__(self, keeper: Keeper, its_record: Record, reader: senders.Reader | None,
-                 seconds: float) -> None:
-        self.keeper, self.record, self.reader, self.ends = keeper, its_record, reader, Ends(seconds)
+    def __init__(self, keeper: Keeper, its_record: Record, seconds: float) -> None:
+        self.keeper, self.record, self.ends = keeper, its_record, Ends(seconds)
         self.names, self.many, self.some, self.task, self.watches = set(), 0, asyncio.Event(), None, False
         self.copies = Copies(keeper)
-        self.may_send = lambda name, bank: True  # whether somebody still sends in the name of a bank
+        self.banks_of = lambda name, bank: frozenset()  # in whose names somebody sends now who sent for a bank
         self.changed = set()  # transfers with something that waits, and of which a message came
+        self.fresh = []  # lines that wait, and were not looked at since
         self.under_way = 0  # posts that have no answer yet
         self.is_open = False  # whether what waits may be taken: not before the site has heard its peers
-        self.often = Often()  # messages of banks that were taken, by transfer
+        self.often = Often()  # messages of banks that were taken, by client and transfer
 
     async def begin(self) -> None:
         """Looks at all that waited when the site ended, and from now on at what changes."""
@@ -66,7 +68,7 @@ class Posts:
     def open(self) -> None:
         """From now on what has its instruction is taken."""
         self.is_open = True
-        self._look_at(set(self.names))
+        self._look_at_again(set(self.names))
 
     async def end(self) -> None:
         if self.task:
@@ -89,122 +91,72 @@ class Posts:
 
     async def _posted(self, asker: Asker, lines: list[bytes]) -> list[Outcome]:
         if asker.who.may(("operator",)):
-            return await self._handed_on(asker, lines)
-        verdicts, reads = await self._judged(asker, lines)
-        verdicts = self._bounded(verdicts, reads)
+            return await self._handed_on(asker, lines, None, {})
+        lines, named = await asyncio.to_thread(lambda: ([senders.without_blanks(line) for line in lines],
+                                                        list(map(named_in, lines))))
+        outcomes = await self._handed_on(asker, lines, asker.who.banks, self._full(asker.who.name, named))
+        for its, outcome in zip(named, outcomes):
+            for transfer in its.transfers if outcome.word == "TAKEN" else ():
+                self.often.add((asker.who.name, transfer))
+        kept = [place for place, outcome in enumerate(outcomes) if outcome.word == "WAITING"]
+        rows = await self._kept(asker, [(lines[place], named[place], outcomes[place].why) for place in kept])
+        until = dict(zip(kept, (row.until for row in rows)))
+        return [Outcome("WAITING", 0, until[place]) if place in until else outcome
+                for place, outcome in enumerate(outcomes)]
 
-        def places(word: str) -> list[int]:
-            return [place for place, verdict in enumerate(verdicts) if verdict.word == word]
-
-        kept, allowed = places(senders.WAITS), places(senders.ALLOWED)
-        rows = await self._kept(asker, [reads[place] for place in kept])
-        read, unread = ([place for place in allowed if (reads[place] is None) == is_unread]
-                        for is_unread in (False, True))
-        done = await self._handed_on(asker, [its.line for its in (reads[place] for place in read) if its])
-        self._counted(reads[place] for place, outcome in zip(read, done) if outcome.word == "TAKEN")
-        refused = await self._refused(asker, [lines[place] for place in unread])
-        self._withheld(asker, [(lines[place], verdicts[place].why) for place in places(senders.FORBIDDEN)])
-        outcomes = {**dict(zip(read, done)), **dict(zip(unread, refused)),
-                    **{place: Outcome("WAITING", 0, row.until) for place, row in zip(kept, rows)}}
-        if rows:
-            self._look_at({(row.originator, row.tx) for row in rows})
-        return [outcomes.get(place) or Outcome("FORBIDDEN", 0, verdict.why or "")
-                for place, verdict in enumerate(verdicts)]
+    def _full(self, name: str, named: list[Named]) -> dict[int, Outcome]:
+        """The lines on transfers on which somebody has posted too many messages, by their places: FORBIDDEN."""
+        full, more = {}, collections.Counter[tuple[str, str]]()
+        for place, its in enumerate(named):
+            more.update(its.transfers)
+            for transfer in its.transfers:
+                if self.often.count((name, transfer)) + more[transfer] > limits.TRANSFER_MOST_MESSAGES:
+                    why = f"{' '.join(transfer)} has {limits.TRANSFER_MOST_MESSAGES} messages of this client"
+                    full[place] = Outcome("FORBIDDEN", 0, why)
+        return full
 
     def _from(self, asker: Asker) -> tuple[str, str, str]:
         return asker.who.name, asker.address, asker.request
 
-    def _reads(self) -> senders.Reader:
-        """What reads lines as the core does. Unable if it is not there."""
-        if self.reader is None:
-            raise Unable("the library that reads lines is not there")
-        return self.reader
-
-    async def _judged(self, asker: Asker, lines: list[bytes]) -> tuple[list[senders.Verdict],
-                                                                       list[senders.Read | None]]:
-        """What a bank may do with each line, and how the core reads it."""
-        reads = await asyncio.to_thread(self._reads().read, lines)
-        held = await self._held(senders.wanted(reads))
-        return senders.judged(reads, asker.who.banks, held), reads
-
-    def _bounded(self, verdicts: list[senders.Verdict], reads: list[senders.Read | None]) -> list[senders.Verdict]:
-        """The verdicts, of which those on transfers with too many messages are FORBIDDEN."""
-        bounded, more = [], collections.Counter[tuple[str, str]]()
-        for verdict, read in zip(verdicts, reads):
-            if read and verdict.word == senders.ALLOWED:
-                more.update(read.transfers)
-                full = [transfer for transfer in read.transfers
-                        if self.often.count(transfer) + more[transfer] > limits.TRANSFER_MOST_MESSAGES]
-                if full:
-                    why = f"{' '.join(full[0])} has {limits.TRANSFER_MOST_MESSAGES} messages"
-                    verdict = senders.Verdict(senders.FORBIDDEN, why)
-            bounded.append(verdict)
-        return bounded
-
-    def _counted(self, reads: Iterable[senders.Read | None]) -> None:
-        for transfer in (transfer for read in reads if read for transfer in read.transfers):
-            self.often.add(transfer)
-
-    async def looked_up(self, transfers: Iterable[tuple[str, str]],
-                        seen: Callable[[bytes, str, str], Any]) -> dict[tuple[str, str], Any]:
-        """What a function sees in the text of the messages on each of some transfers. Not more texts than a few are
-        there at a time."""
-        transfers, results = sorted(transfers), {}
-        for place in range(0, len(transfers), limits.ASKED_AT_ONCE):
-            some = transfers[place:place + limits.ASKED_AT_ONCE]
-            answers = await self.keeper.ask_all([on_transfer(*transfer) for transfer in some], limits.SHORT_TEXT_BYTES)
-            short = [(transfer, answer.text) for transfer, answer in zip(some, answers) if not answer.is_cut]
-            results.update(await asyncio.to_thread(lambda: {transfer: seen(bytes(text), *transfer)
-                                                            for transfer, text in short}))
-            # a long text is there alone
-            for transfer in (transfer for transfer, answer in zip(some, answers) if answer.is_cut):
-                results[transfer] = await asyncio.to_thread(seen, bytes(await self.keeper.ask(on_transfer(*transfer))),
-                                                            *transfer)
-        return results
-
-    async def _held(self, transfers: Iterable[tuple[str, str]]) -> dict[tuple[str, str], set[str]]:
-        """The beneficiary banks of the instructions that are held for some transfers."""
-        return await self.looked_up(transfers, senders.beneficiaries)
-
-    async def _handed_on(self, asker: Asker, lines: list[bytes]) -> list[Outcome]:
-        """The outcomes of lines that the process is given, after the record has them."""
+    async def _handed_on(self, asker: Asker, lines: list[bytes], banks: frozenset[str] | None,
+                         full: dict[int, Outcome]) -> list[Outcome]:
+        """The outcomes of lines that the process is given, in the names of some banks or in any, after the record has
+        them. Some have theirs already, by their places, and are not given. Of a bank's lines that cannot be messages
+        the record has the number alone, so that nobody fills the disk."""
         if not lines:
             return []
-        number = await self.record.add("post", *self._from(asker), chain.post_of(lines))
+        is_row = [banks is None or senders.may_be_message(line) for line in lines]
+        rows, unread = ([line for line, its in zip(lines, is_row) if its == wanted] for wanted in (True, False))
+        number = await self.record.add("post", *self._from(asker), chain.post_of(rows)) if rows else None
+        if unread:
+            self.record.note("unread", *self._from(asker),
+                             {"lines": len(unread), "first": chain.digest_of(unread[0])})
+        given = [place for place in range(len(lines)) if place not in full]
         try:
-            outcomes = await self.keeper.take(lines)
+            found = await self.keeper.take([lines[place] for place in given], banks) if given else []
         except (Halted, Unable, Busy) as why:
-            self.record.note("failed", *self._from(asker), chain.failed_of(number, str(why)))
+            if number:
+                self.record.note("failed", *self._from(asker), chain.failed_of(number, str(why)))
             raise
-        self.record.note("outcome", *self._from(asker), chain.outcomes_of(number, outcomes))
+        its = {**full, **{place: told(one, banks) for place, one in zip(given, found)}}
+        outcomes = [its[place] for place in range(len(lines))]
+        if number:
+            self.record.note("outcome", *self._from(asker),
+                             chain.outcomes_of(number, itertools.compress(outcomes, is_row)))
         return outcomes
 
-    async def _refused(self, asker: Asker, lines: list[bytes]) -> list[Outcome]:
-        """The outcomes of lines that the core refuses. The process is not given them: nobody knows in whose name they
-        are. The record has their number alone, so that nobody fills the disk with them."""
+    async def _kept(self, asker: Asker, lines: list[tuple[bytes, Named, str]]) -> list[waiting.Waiting]:
+        """The rows of some lines that wait from now on, each with what it names and the transfer for which it waits."""
         if not lines:
             return []
-        texts = await asyncio.to_thread(self._reads().refusals, lines)
-        self.record.note("unread", *self._from(asker), {"lines": len(lines), "first": chain.digest_of(lines[0])})
-        return [self.keeper.refused(text) for text in texts]
-
-    def _withheld(self, asker: Asker, withheld: list[tuple[bytes, str | None]]) -> None:
-        """Has the record say which lines were in the name of another bank."""
-        if withheld:
-            first = [[chain.digest_of(line), why] for line, why in withheld[:limits.WITHHELD_MOST_LINES]]
-            self.record.note("withheld", *self._from(asker), {"lines": first, "more": len(withheld) - len(first)})
-
-    async def _kept(self, asker: Asker, reads: list[senders.Read | None]) -> list[waiting.Waiting]:
-        """The rows of some lines that wait from now on."""
-        if not reads:
-            return []
         until = chain.utc(time.time() + self.ends.most)
-        rows = [waiting.to_wait(until, asker.who.name, read.sender, read.kind,
-                                *read.transfers[0], asker.request, read.line)
-                for read in reads if read]
+        rows = [waiting.to_wait(until, asker.who.name, its.sender, its.kind, bank, tx, asker.request, line)
+                for line, its, (bank, _, tx) in ((line, its, transfer.partition(" ")) for line, its, transfer in lines)]
         there = await self.record.put_waiting(rows, asker.address)
         for number in (row.number for row in there if row.number):
             self.ends.begin(number)
+        self.fresh += there
+        self._look_at({(row.originator, row.tx) for row in there})
         return there
 
     # ---- what waits
@@ -215,11 +167,15 @@ class Posts:
         if self.names:
             changed = self.names if changes is None else self.names & {change[:2] for change in changes}
             if changed:
-                self._look_at(changed)
+                self._look_at_again(changed)
+
+    def _look_at_again(self, transfers: set[tuple[str, str]]) -> None:
+        """Has all that waits for some transfers looked at."""
+        self.changed |= transfers
+        self._look_at(transfers)
 
     def _look_at(self, transfers: set[tuple[str, str]]) -> None:
         self.names |= transfers
-        self.changed |= transfers
         self._watch()
         self.some.set()
 
@@ -251,26 +207,26 @@ class Posts:
                 self.some.set()
 
     async def _look(self) -> None:
-        """Takes what has its instruction now, and gives up what waited too long."""
+        """Hands on again what may have its instruction now, and gives up what waited too long."""
         if self.names:
             await self.keeper.begin_watching()
-        changed, self.changed = self.changed, set()
+        changed, fresh, self.changed, self.fresh = self.changed, self.fresh, set(), []
         try:
-            held = await self._held(changed)
-            for row in await self.record.waiting() if self.is_open and any(
-                    held.values()) and not self.keeper.marks.refusal() else []:
-                if held.get((row.originator, row.tx)):
-                    await self._decided(row, held[row.originator, row.tx])
+            if (changed or fresh) and self.is_open and not self.keeper.marks.refusal():
+                again = [row for row in await self.record.waiting()
+                         if (row.originator, row.tx) in changed] if changed else []
+                await self._handed_on_again(list({row.number: row for row in [*again, *fresh]}.values()))
         except BaseException:
-            self.changed |= changed
+            self.changed, self.fresh = self.changed | changed, fresh + self.fresh
             raise
         late = self.ends.late()
         for number in late:
             await self._ended(number, "EXPIRED", "no instruction came in time")
-        if changed or late:
-            rows = await self.record.waiting()
+        if changed or fresh or late:
+            rows = await self.record.waiting(lines=False)
             self._wait(rows)
-            self.names, self.many = {(row.originator, row.tx) for row in rows} | self.changed, len(rows)
+            self.names, self.many = {(row.originator, row.tx) for row in rows} | self.changed | {
+                (row.originator, row.tx) for row in self.fresh}, len(rows)
             self._watch()
 
     def _wait(self, rows: list[waiting.Waiting]) -> None:
@@ -281,13 +237,27 @@ class Posts:
         await self.record.end_waiting(number, state, outcome)
         self.ends.end(number or 0)
 
-    async def _decided(self, row: waiting.Waiting, beneficiaries: set[str]) -> None:
-        """Hands a line on that waited, if the bank is the beneficiary bank of its instruction."""
-        if row.bank not in beneficiaries or not self.may_send(row.who, row.bank):
-            why = (f"{row.bank} is not the beneficiary bank of {row.originator} {row.tx}"
-                   if row.bank not in beneficiaries
-                   else f"{row.who} does not send in the name of {row.bank} any more")
-            await self._ended(row.number, "FORBIDDEN", why)
-            return
-        outcome, = await self.keeper.take([row.line])
-        await self._ended(row.number, outcome.word, outcome.number if outcome.word == "TAKEN" else outcome.why or None)
+    async def _handed_on_again(self, rows: list[waiting.Waiting]) -> None:
+        """Hands lines on that wait, some at a time, in the names that their clients have now. What has no instruction
+        yet waits on."""
+        def sender(row: waiting.Waiting) -> tuple[str, str]:
+            return row.who, row.bank
+
+        for (who, bank), its in itertools.groupby(sorted(rows, key=sender), key=sender):
+            banks, left = self.banks_of(who, bank), list(its)
+            for place in range(0, len(left), limits.ASKED_AT_ONCE):
+                some = left[place:place + limits.ASKED_AT_ONCE]
+                if banks:
+                    outcomes = [told(one, banks) for one in await self.keeper.take([row.line for row in some], banks)]
+                else:
+                    why = f"{who} does not send in the name of {bank} any more"
+                    outcomes = [Outcome("FORBIDDEN", 0, why)] * len(some)
+                for row, outcome in zip(some, outcomes):
+                    if outcome.word != "WAITING":
+                        await self._ended(row.number, outcome.word, outcome.number or outcome.why or None)
+
+
+def told(outcome: Outcome, banks: frozenset[str] | None) -> Outcome:
+    """An outcome as a client is told it, who sends in the names of some banks."""
+    return outcome if outcome.word != "FORBIDDEN" else outcome._replace(
+        why=senders.why_withheld(outcome.why, banks or ()))

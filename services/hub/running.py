@@ -37,7 +37,6 @@ from .posts import Posts
 from .process import Ended
 from .record import Record
 from .roll import Closing, move_waiting
-from .senders import Reader
 from .service import Service
 
 # exit statuses of a site: it cannot go on, it must not start, its disk or its port is not there
@@ -110,11 +109,10 @@ class Site:
         table(self.settings.access)  # what is wrong with it, or is missing, is seen at the start
         valid = tls.valid(self.settings.tls)
         desk_module(CONVERTER)
-        reader = Reader(self.version) if self.roles.has_banks() else None
         await self._open()
-        self.posts = Posts(self.keeper, self.record, reader, self.settings.waiting)
+        self.posts = Posts(self.keeper, self.record, self.settings.waiting)
         self.posts.copies.be(self.settings)
-        self.posts.may_send = lambda name, bank: self.roles.may_send(name, bank)
+        self.posts.banks_of = lambda name, bank: self.roles.banks_of(name, bank)
         self.guard = Guard([self.settings.host, *self.settings.names], self.roles)
         self.record.clients = self.guard.clients
         self.parts = Parts(self.keeper, self.peers, self.guard, self.record, self.posts, self.version,
@@ -281,7 +279,6 @@ class Site:
             if settings.tls:
                 tls.to_clients(settings.tls)
             valid = tls.valid(settings.tls)
-            reader = self.posts.reader or (Reader(self.version) if roles.has_banks() else None)
             before, self.settings, self.roles = (self.settings, self.roles), settings, roles
             try:
                 await self.peers.be(settings, self._to_peer)
@@ -298,7 +295,7 @@ class Site:
         await self.mirroring.be(settings.mirror)
         self.parts.seconds = self.connections.seconds = settings.seconds
         self.service.desk.events.end()
-        self.posts.reader, self.posts.ends.most = reader, settings.waiting
+        self.posts.ends.most = settings.waiting
         self.posts.copies.be(settings)
         self.keeper.marks.takes = settings.takes
         await self._listen()

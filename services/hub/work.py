@@ -8,7 +8,7 @@ import asyncio
 import collections
 import dataclasses
 import json
-from typing import NamedTuple
+from typing import Collection, NamedTuple
 from . import errors, limits
 from .faults import Busy, Refused, Unable
 from .process import Reply
@@ -20,7 +20,8 @@ class Answer(NamedTuple):
     vector: str
 
 
-# TAKEN with its number, REPEAT, REFUSED by a number and a text, WAITING until a time, or FORBIDDEN for a reason
+# TAKEN with its number, REPEAT, or REFUSED by a number and a text. Of a line of a bank also FORBIDDEN for a reason, or
+# WAITING for the instruction of a transfer, and later until a time
 class Outcome(NamedTuple):
     word: str
     number: int
@@ -122,7 +123,17 @@ class Queue:
 
 def as_message(line: bytes) -> bytes:
     """A line as a request that is read as a message, whatever it begins with. A line of blanks is none."""
-    return b" " + line if line.startswith((b"delta ", b"? ")) else line
+    return b" " + line if line.startswith((b"delta ", b"? ", b"as ")) else line
+
+
+def listed(banks: Collection[str]) -> bytes:
+    """Banks as a request has them."""
+    return ",".join(sorted(banks)).encode()
+
+
+def in_names(banks: Collection[str], line: bytes) -> bytes:
+    """The request that takes a line if it may be sent in the name of one of some banks."""
+    return b"as %s %s" % (listed(banks), line)
 
 
 def outcome_of(reply: Reply) -> Outcome:
@@ -131,6 +142,8 @@ def outcome_of(reply: Reply) -> Outcome:
     if reply.word == b"REPEAT":
         return Outcome("REPEAT", 0, "")
     text = reply.rest.decode(errors="replace")
+    if reply.word in (b"FORBIDDEN", b"WAITING"):
+        return Outcome(reply.word.decode(), 0, text)
     return Outcome("REFUSED", int(text.split()[0]), text)
 
 

@@ -1,6 +1,8 @@
 """java.py: builds the Java package of bindings/java by its script, and runs its tests on the examples. Its jar is that
 of the release."""
+import contextlib
 import io
+import os
 import pathlib
 import re
 import shutil
@@ -10,10 +12,39 @@ from tests import harness
 from tests.harness import EXAMPLES, TOP, reported
 from tests.hub import sites
 from tools import bindings
+from tools import library as libraries
 
 SOURCES = TOP / "bindings" / "java"
 JNA = pathlib.Path("/usr/share/java/jna.jar")
 TIME = 1714644000  # 2024-05-02 10:00:00
+
+
+@contextlib.contextmanager
+def library():
+    """The path of the library: the one that a variable names, else one that is made of what the gate leaves, else a
+    stand-in of the definitions. Nothing is proved for it. A line says which it is."""
+    named = os.environ.get("NILUPPANG_LIBRARY")
+    if named and not os.path.isfile(named):
+        raise sites.Skipped(f"there is no library {named}, which NILUPPANG_LIBRARY names")
+    with tempfile.TemporaryDirectory(prefix="java-library-") as folder:
+        try:
+            made = named or libraries.make_shared(libraries.make_archive(folder, proves=False).parent)
+            print(f"program: the library {made}", flush=True)
+        except libraries.Missing as missing:
+            made = stand_in(folder)
+            print(f"program: the stand-in tests/standin/library.c of the definitions, since {missing}", flush=True)
+        yield os.path.abspath(made)
+
+
+def stand_in(folder):
+    """A stand-in for the library, made in a folder."""
+    path, source = pathlib.Path(folder, "libniluppang.so"), harness.STAND_IN.parent
+    words = ["-std=gnu11", "-Wall", "-Wextra", "-Werror", "-shared", "-fPIC", f"-I{TOP / 'include'}",
+             f'-DSERVER="{source / "library.py"}"']
+    done = harness.run(["gcc", *words, source / "library.c", "-o", path, "-lpthread"])
+    if done.status:
+        raise sites.Skipped(f"the stand-in of the library is not built: {done.errors.decode(errors='replace')[:300]}")
+    return path
 
 
 def is_of_release(path):
@@ -50,8 +81,8 @@ def tested(library):
 
 
 def check():
-    with sites.library() as library:
-        return tested(library)
+    with library() as path:
+        return tested(path)
 
 
 if __name__ == "__main__":

@@ -118,7 +118,7 @@ FIELDS = {
     "python3-niluppang": ("python", "all",
                           rf"libniluppang0\.3 \(>= {re.escape(library.VERSION)}\), python3 \(>= 3\.8\)"),
     "niluppang-hub": ("net", "all",
-                      rf"niluppang \(= {NUMBER}\), python3-niluppang \(= {NUMBER}\), python3 \(>= 3\.11\), "
+                      rf"niluppang \(= {NUMBER}\), python3 \(>= 3\.11\), "
                       r"python3-aiohttp \(>= 3\.8\.4-1\+deb12u2\), adduser")
 }
 

@@ -26,8 +26,8 @@ from tests.hub.limits import connections, memory
 from tests.hub.peers import odd_peer
 from tests.hub.secure import DESK_TOKEN, OLD_TOKEN, ROLES
 from tests.hub.sites import Hub, outcomes, until
-from tests.hub.trial import head, line_of
-from tests.hub.troubles import tried_with_library
+from tests.hub.trial import head
+from tests.hub.troubles import tried_with_tls
 sys.path.insert(0, str(SERVICES))
 from hub import chain, mirror, record, waiting
 
@@ -84,7 +84,7 @@ class Secure:
         self.trial, self.made = trial, secure.Secured(trial.fresh("secured"))
 
     @contextlib.contextmanager
-    def site(self, name, *lines, number=1, is_well=True, library=None, **keys):
+    def site(self, name, *lines, number=1, is_well=True, **keys):
         """One site with TLS and roles, which takes messages."""
         port, data = keys.pop("port", None) or sites.free_ports(1), keys.pop("data", None) or self.trial.fresh(name)
         config = self.made.configured(data, number, port, *lines, **keys)
@@ -231,14 +231,16 @@ def banks(trial):
         twice = b'{"InstgAgt":"LUTEFRPPXXX",' + instruction(HAN, SCA, 3)[1:]
         yield "a name that is there twice is read as the core reads it", [
             words("lutefrpp", twice), words("hansdehh", twice)] == [["FORBIDDEN"], ["TAKEN"]]
-        yield "a line that is a delta or a question is no message", words("lutefrpp", b"delta 2\tend 0\n",
-                                                                          b"? archive\n") == ["REFUSED", "REFUSED"]
+        other = b"as HANSDEHH " + instruction(HAN, SCA, 4)
+        yield "a line that is a delta, a question or sent as another bank is no message", words(
+            "lutefrpp", b"delta 2\tend 0\n", b"? archive\n", other) == words(
+                "operator", b"delta 2\tend 0\n", b"? archive\n", other) == ["REFUSED"] * 3
         answer = it.asked(hub, "/messages", (EXAMPLES / "refusals.jsonl").read_bytes(), who="lutefrpp")
         refused = [sites.refusal_of(one) for one in outcomes(answer) if one["outcome"] == "REFUSED"]
         right = [line.partition(": ")[2] for line in (EXAMPLES / "refusals.refused").read_text().splitlines()]
         yield "lines that are no messages are refused in the words of the program", refused == right and len(
             right) == 29, str(refused)
-        yield "and are counted", b'niluppang_messages_total{outcome="REFUSED"} 31\n' in it.asked(hub, "/metrics",
+        yield "and are counted", b'niluppang_messages_total{outcome="REFUSED"} 35\n' in it.asked(hub, "/metrics",
                                                                                                  who="monitor").body
         yield "who may say anything", words("operator", instruction(HAN, SCA, 9)) == ["TAKEN"]
         yield from reads_own(it, hub)
@@ -269,23 +271,124 @@ def reads_own(it, hub):
 
     yield "a report on its own list", [report("scalbebb", "SCALBEBB", (LUX, "T1"), (HAN, "T9")),
                                        report("hansdehh", HAN, (HAN, "T9"))] == [200, 200]
-    yield "no report with rows of others, and none in another name", [
-        report("hansdehh", HAN, (LUX, "T1")), report("hansdehh", LUX, (LUX, "T1"))] == [403, 403]
-    said = sites.error_of(it.asked(hub, f"/report/{HAN}/2024-05-02", rows((HAN, "T9"), (LUX, "T1")), who="hansdehh"))
-    yield "the row is named, and nothing of the transfer", said == (403, 403, "Forbidden",
-                                                                    "no transfer of this bank: row 3")
-    row = ("list", "hansdehh", {"rows": 1,
-                                "first": "row 3: LUTEFRPPXXX T1 is a transfer to SCALBEBBXXX, and not of HANSDEHHXXX"})
-    yield "the record has what the rule says", until(lambda: row in recorded(hub))
+    yield "no report in another name", [sites.error_of(it.asked(hub, f"/report/{bank}/2024-05-02", rows((LUX, "T1")),
+                                                                who="hansdehh")) for bank in (LUX, "SCALBEBB")] == [
+        (403, 403, "Forbidden", "a bank asks about itself alone")] * 2
+    answer = it.asked(hub, f"/report/{HAN}/2024-05-02", rows((HAN, "T9"), (LUX, "T1"), (LUX, "NONE")), who="hansdehh")
+    yield "of a row on a transfer of others it is told what its list says, as of one that is not there", [
+        answer.status, answer.body.decode().splitlines()[1:], answer.headers.get("Niluppang-Notes")] == [
+            200, [f"{HAN},T3,ONLY_IN_ARCHIVE,,,1.00,PENDING", f"{HAN},T9,STATUS_DIFFERS,1.00,ACCEPTED,1.00,PENDING",
+                  *(f"{LUX},{tx},ONLY_IN_LIST,1.00,ACCEPTED,,UNKNOWN" for tx in ("NONE", "T1"))], None], str(answer)
+    yield "and the beneficiary bank what is held", it.asked(
+        hub, "/report/SCALBEBB/2024-05-02", rows((LUX, "T1")), who="scalbebb").body.decode().splitlines()[-1] == (
+            f"{LUX},T1,MATCHED,1.00,ACCEPTED,1.00,ACCEPTED")
     words = [it.words(hub, "lutefrpp", *lines)
              for lines in ([instruction(LUX, HAN, 31), instruction(LUX, SCA, 32)], [recall(LUX, LUX, 31, 32)])]
     its = {who: it.asked(hub, f"/transfers/{LUX}/T31/messages", who=who).body.splitlines()
            for who in ("lutefrpp", "hansdehh", "desk")}
-    about = {who: [[part["OrgnlTxId"] for part in one["TxInf"]] for one in map(json.loads, lines) if "TxInf" in one]
-             for who, lines in its.items()}
+    about = {who: [[part["OrgnlTxId"] for part in one.get("TxInf", [one])]
+                   for one in map(json.loads, lines) if one["MsgNmId"] == "camt.056"] for who, lines in its.items()}
     yield "of a recall of several transfers a beneficiary bank is shown its own", words == [
         ["TAKEN"] * 2, ["TAKEN"]] and about == {
             "lutefrpp": [["T31", "T32"]], "hansdehh": [["T31"]], "desk": [["T31", "T32"]]}
+
+
+def of_han(*lines):
+    """What HAN has with LUX and SCA, and some lines more: T1 and T3 are from LUX to it, and T2 is from it to SCA."""
+    return b"".join([instruction(LUX, HAN, 1), confirmation(HAN, LUX, 1), instruction(HAN, SCA, 2),
+                     instruction(LUX, HAN, 3), *lines])
+
+
+def recalled(*numbers):
+    """A recall of transfers of LUX under one name, whatever it recalls."""
+    return recall(LUX, LUX, *numbers).replace(b"K" + "-".join(map(str, numbers)).encode(), b"KX")
+
+
+# what two hubs hold that HAN may not tell from each other: T1 is recalled with a transfer of others, T3 is contradicted
+# by a message about a transfer of others, and the others have other transfers, contradictions and early answers
+HUBS = [of_han(recalled(1, 4), instruction(LUX, SCA, 4), confirmation(SCA, LUX, 4),
+               instruction(LUX, SCA, 9, MsgId="M3", IntrBkSttlmAmt="7.00"), confirmation(SCA, LUX, 6)),
+        of_han(recalled(1, 5), instruction(LUX, SCA, 8, MsgId="M3", IntrBkSttlmAmt="9.00"),
+               instruction(SCA, LUX, 7), instruction(SCA, LUX, 7, IntrBkSttlmAmt="3.00"),
+               instruction(LUX, SCA, 10), recall(LUX, LUX, 10, 4), confirmation(SCA, LUX, 10))]
+NUMBERED = ("Date", "Niluppang-Request")  # headers that name a moment or a request, and say nothing of what is held
+
+
+def questions_of_han():
+    """All that HAN may ask: each address, each transfer of all banks, and lists of all of them. What is taken has a
+    number, by which the hubs differ."""
+    paths = [(path, body) for path, body, _ in PATHS.values() if path not in ("/messages", "/iso20022")]
+    named = [(bank, f"T{number}") for bank in (LUX, HAN, SCA) for number in range(12)]
+    paths += [(f"/transfers/{bank}/{tx}{more}", None) for bank, tx in named for more in ("", "/messages", "/proof")]
+    paths += [(f"/totals/{bank}", None) for bank in (LUX, HAN, HAN[:8], SCA, "NOBODYXX", "x")]
+    rows = "".join(f"{bank},{tx},1.00,ACCEPTED\n" for bank, tx in named)
+    paths += [(f"/report/{bank}/{day}", f"DbtrAgt,TxId,Amt,Sts\n{rows}{more}".encode()) for bank in (HAN, LUX)
+              for day in ("2024-05-02", "2024-05-03", "x") for more in ("", f"{LUX},T 1,x,ACCEPTED\n")]
+    answer = (EXAMPLES / "desk/iso20022/camt.029.xml").read_text().replace("HANSDEHH", LUX[:8])
+    answer = answer.replace("SCALBEBB", HAN[:8])
+    return paths + [("/iso20022", answer.replace("HH-0502", f"T{number}").encode()) for number in (4, 5, 9, 11)]
+
+
+def is_blind(trial):
+    """Two hubs that differ in what a bank may not see answer each of its questions with equal bytes."""
+    it, port, data = Secure(trial), sites.free_ports(1), trial.fresh("blind")
+    found, seen = [], []
+    for held in HUBS:
+        with it.site("blind", port=port, data=data) as hub:
+            it.words(hub, "operator", held)
+            answers = [it.asked(hub, path, body, who="hansdehh") for path, body in questions_of_han()]
+            found.append([(one.status, one.body, sorted((name, text) for name, text in one.headers.items()
+                                                        if name not in NUMBERED)) for one in answers])
+            seen.append([it.asked(hub, path, who=who).body for who, path in (
+                ("desk", "/status"), ("hansdehh", f"/transfers/{LUX}/T3"), ("hansdehh", f"/transfers/{LUX}/T1/messages"),
+                ("desk", "/health"), ("hansdehh", "/health"))])
+            until_then = it.words(hub, "hansdehh", instruction(HAN, SCA, 20), confirmation(HAN, LUX, 3),
+                                  confirmation(HAN, LUX, 11), instruction(LUX, HAN, 21))
+            yield "it posts, and is told the same", until_then == ["TAKEN", "TAKEN", "WAITING", "FORBIDDEN"]
+        for path in data.iterdir():
+            path.unlink()
+    differ = [asked for asked, one, other in zip(questions_of_han(), *found) if one != other]
+    yield "all answers are equal, with their heads", differ == [], str(differ[:5])
+    (status, contradicted, messages, health, own), (others, *_, other_health, _) = seen
+    yield "though the desk sees that the hubs differ", status != others and health != other_health
+    yield "and the bank what is its own", contradicted.startswith(f"T|{LUX}|T3|CONTRADICTED".encode()) and [
+        one["OrgnlTxId"] for one in map(json.loads, messages.splitlines()) if one["MsgNmId"] == "camt.056"] == ["T1"]
+    yield "health tells a bank neither how much is held nor its digests", {"vector", "digests"} <= set(
+        json.loads(health)) and not {"vector", "digests"} & set(json.loads(own))
+
+
+def stands_for_two(trial):
+    """A client that stands for two banks, as a direct participant does, and loses one of them."""
+    it = Secure(trial)
+    it.made.write_roles(hansdehh=["bank HANSDEHH", "bank LUTEFRPP"])
+    with it.site("two-banks") as hub:
+        lines = [instruction(HAN, SCA, 1, DbtrAgt=LUX), instruction(LUX, SCA, 2), instruction(SCA, HAN, 3),
+                 instruction(HAN, SCA, 4, DbtrAgt=SCA), confirmation(LUX, SCA, 5), recall(HAN, LUX, 1, 2)]
+        yield "it sends by one of them about a transfer of the other one, and by neither about a third bank's", it.words(
+            hub, "hansdehh", *lines) == ["TAKEN", "TAKEN", "FORBIDDEN", "FORBIDDEN", "WAITING", "TAKEN"]
+        yield "each for itself may not", it.words(hub, "lutefrpp", *lines[:1]) == ["FORBIDDEN"]
+
+        def got(who, path, body=None):
+            answer = it.asked(hub, path, body, who=who)
+            return answer.status, answer.body.decode()
+
+        seen = [got("hansdehh", f"/transfers/{LUX}/T{n}")[1].splitlines()[0] for n in (1, 2)]
+        totals = [got("hansdehh", f"/totals/{bank}")[0] for bank in (HAN, LUX, SCA)]
+        yield "it reads about both", (seen, totals) == ([f"T|{LUX}|T{n}|PENDING" for n in (1, 2)], [200, 200, 403])
+        yield "what waits is listed for each of its banks", [one["bank"] for one in map(
+            json.loads, got("hansdehh", "/waiting")[1].splitlines())] == [LUX]
+        answer = it.asked(hub, f"/report/{HAN}/2024-05-02", f"DbtrAgt,TxId,Amt,Sts\n{LUX},T2,1.00,PENDING\n".encode(),
+                          who="hansdehh")
+        yield "a row of one in the list of the other has a report, and a warning", answer.body.decode().splitlines()[
+            1:] == [f"{LUX},T2,MATCHED,1.00,PENDING,1.00,PENDING"] and json.loads(
+                answer.headers["Niluppang-Notes"]) == [f"row 2: {LUX} T2 is a transfer to {SCA}, and not of {HAN}"]
+        it.made.write_roles(hansdehh=["bank HANSDEHH"])
+        hub.process.send_signal(signal.SIGHUP)
+        yield "a bank that is taken away is read no more", until(
+            lambda: got("hansdehh", f"/transfers/{LUX}/T2")[0] == 403)
+        it.words(hub, "operator", instruction(SCA, LUX, 5))
+        yield "nor is what waits in its name taken", until(lambda: recorded(hub)[-1][0] == "forbidden") and got(
+            "desk", f"/transfers/{SCA}/T5")[1] == f"T|{SCA}|T5|PENDING\n"
 
 
 def answers_recalls(it, hub):
@@ -403,7 +506,7 @@ def hand_on():
     out.flush()
 hand_on()
 for request in sys.stdin.buffer:
-    if request == b"? messages {bank} T900\\n":
+    if request.startswith(b"? of ") and request.endswith(b" messages {bank} T900\\n"):
         out.write(b"TEXT %d\\n" % len(text) + text + b"\\n")
         out.flush()
         continue
@@ -484,17 +587,16 @@ def on_record(trial):
         answer = it.asked(hub, "/messages", b"".join(lines), who="lutefrpp")
         it.asked(hub, "/messages", confirmation(SCA, LUX, 9), who="scalbebb")
         it.asked(hub, "/archive", who="monitor")
-        rows = [row for row in recorded(hub, "outcome", "unread", "withheld", "wait", "denied") if row[0] != "begin"]
-        by_act = {act: (who, what) for act, who, what in rows}
-        yield "who posted what, and what became of it", [by_act[act] for act in ("post", "outcome")] == [
-            ("lutefrpp", {"lines": [digest(line_of(lines[0].strip()))]}),
-            ("lutefrpp", {"of": 2, "outcomes": [["TAKEN", 1]]})]
-        yield "what is no message, and what was in the name of another bank", [
-            by_act[act] for act in ("unread", "withheld")] == [
-                ("lutefrpp", {"lines": 1, "first": digest(b"{}")}),
-                ("lutefrpp", {"lines": [[digest(lines[2]), f"InstgAgt is {HAN}, and not {LUX}"]], "more": 0})]
-        yield "what waits", by_act["wait"] == (
-            "scalbebb", {"of": None, "lines": [[1, SCA, digest(line_of(confirmation(SCA, LUX, 9).strip()))]]})
+        rows = [row for row in recorded(hub, "outcome", "unread", "wait", "denied") if row[0] != "begin"]
+        by_act = {act: (who, what) for act, who, what in reversed(rows)}
+        yield "who posted what, and what became of it, also what was in the name of another bank", [
+            by_act[act] for act in ("post", "outcome")] == [
+                ("lutefrpp", {"lines": [digest(lines[0]), digest(lines[2])]}),
+                ("lutefrpp", {"of": 2, "outcomes": [["TAKEN", 1], ["FORBIDDEN", f"InstgAgt is not {LUX}"]]})]
+        yield "what is no message", by_act["unread"] == ("lutefrpp", {"lines": 1, "first": digest(b"{}")})
+        waits = digest(confirmation(SCA, LUX, 9))
+        yield "what waits", by_act["wait"] == ("scalbebb", {"of": None, "lines": [[1, SCA, waits]]}) and (
+            "post", "scalbebb", {"lines": [waits]}) in rows
         yield "who was refused", by_act["denied"] == ("monitor",
                                                       {"asked": "GET /archive", "why": "this needs the role desk"})
         with contextlib.closing(sqlite3.connect(f"file:{hub.folder}/site1.record?mode=ro", uri=True)) as connection:
@@ -811,13 +913,13 @@ def peer_certificate(it, hub):
             return connection.getpeercert()["serialNumber"]
 
 
-CHECKS = [describes_itself, strangers, each_role, banks, floods, reads_long_texts, crowds, on_record, peers,
+CHECKS = [describes_itself, strangers, each_role, banks, stands_for_two, is_blind, floods, reads_long_texts, crowds, on_record, peers,
           overtakes, goes_on, handed_on,
           insiders, other_roles, new_certificates, certificates_are_kept]
 
 
 def check(python, program):
-    return tried_with_library("attackers", CHECKS, python, program)
+    return tried_with_tls("attackers", CHECKS, python, program)
 
 
 if __name__ == "__main__":

@@ -6,7 +6,7 @@ import subprocess
 from tests.hub import sites
 from tests.hub.attackers import LUX, SCA, Secure, confirmation, instruction
 from tests.hub.sites import Hub, outcomes, until
-from tests.hub.troubles import tried_with_library
+from tests.hub.troubles import tried_with_tls
 
 DAYS = 2 * 86400
 
@@ -71,7 +71,7 @@ def jumps(trial):
 
 
 def check(python, program):
-    return tried_with_library("clocks", [jumps], python, program)
+    return tried_with_tls("clocks", [jumps], python, program)
 
 
 if __name__ == "__main__":

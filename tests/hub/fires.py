@@ -227,7 +227,6 @@ def check(python, program):
     if shutil.which("openssl") is None:
         raise sites.Skipped("there is no openssl: apt-get install openssl")
     with contextlib.ExitStack() as stack:
-        library = stack.enter_context(sites.library())
         data = pathlib.Path(stack.enter_context(tempfile.TemporaryDirectory(prefix="hub-fires-")), "hub")
         data.mkdir()
         disks = [stack.enter_context(small_disk(data / f"site{site}", SIZE)) for site in range(1, SITES + 1)]
@@ -235,8 +234,7 @@ def check(python, program):
             raise sites.Skipped("nobody may mount a disk here")
         r, port, made = random.Random(asked.seed), sites.free_ports(SITES), secure.Secured(data.with_name("secured"))
         lines = Lines(r, made_lines(r, asked.messages), asked.seconds or 180 + asked.kills * 6 + asked.messages / 20)
-        hub = sites.Hub(python, program, data, config=configured(made, data, port, list(range(1, SITES + 1))),
-                        NILUPPANG_LIBRARY=library)
+        hub = sites.Hub(python, program, data, config=configured(made, data, port, list(range(1, SITES + 1))))
         return tried(asked, Burning(r, made, data, port, hub, lines), program)
 
 

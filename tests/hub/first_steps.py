@@ -74,10 +74,10 @@ def ended(process):
         process.wait()
 
 
-def follows(python, program, library, sections):
+def follows(python, program, sections):
     """Does what some sections of the page say."""
     port, running = sites.free_ports(3), []
-    variables = {**os.environ, "SCT_SITES": program, "NILUPPANG_LIBRARY": library}
+    variables = {**os.environ, "SCT_SITES": program}
     with tempfile.TemporaryDirectory(prefix="first-steps-") as folder:
         for name in ("services", "examples"):
             pathlib.Path(folder, name).symlink_to(TOP / name)
@@ -97,8 +97,7 @@ def follows(python, program, library, sections):
 
 
 def check(python, program):
-    with sites.library() as library:
-        return [reported(*one) for sections in SECTIONS for one in follows(python, program, library, sections)]
+    return [reported(*one) for sections in SECTIONS for one in follows(python, program, sections)]
 
 
 if __name__ == "__main__":

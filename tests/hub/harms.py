@@ -18,7 +18,7 @@ from tests.hub.attackers import HAN, LUX, SCA, Secure, confirmation, instruction
 from tests.hub.limits import connections, memory
 from tests.hub.sites import until
 from tests.hub.trial import head, is_closed, status_of
-from tests.hub.troubles import tried_with_library
+from tests.hub.troubles import tried_with_tls
 
 MIB = 1 << 20
 TAKEN = b'"outcome":"TAKEN"'
@@ -356,12 +356,13 @@ def lists_what_comes(trial):
                 victim.start()
             found.append(it.asked(hub, f"/report/{LUX}/2024-05-02", body, who="lutefrpp", timeout=300))
         victim.join()
-        sent = [line for answer in found if answer.status == 200 for line in answer.body.splitlines()]
-        told = [line for line in sent if line.startswith(HAN.encode()) and b"1021" in line]
-        yield "it is told nothing of them", found[
-            0].status == 200 and told == [], f"{[it.status for it in found]} {told[:3]}"
-        yield "nor afterwards", it.asked(hub, f"/report/{LUX}/2024-05-02", body, who="lutefrpp",
-                                         timeout=300).status == 403
+        found.append(it.asked(hub, f"/report/{LUX}/2024-05-02", body, who="lutefrpp", timeout=300))
+        held = it.asked(hub, f"/transfers/{HAN}/T59", who="desk").body
+        told = {line.partition(b",ONLY")[2] for answer in found for line in answer.body.splitlines()
+                if line.startswith(HAN.encode())}
+        yield "it is told nothing of them, before they come, meanwhile and afterwards", [
+            it.status for it in found] == [200] * 5 and told == {b"_IN_LIST,1.00,ACCEPTED,,UNKNOWN"}, str(told)[:300]
+        yield "and its answers are equal", len({answer.body for answer in found}) == 1 and b"PENDING" in held
 
 
 def fills_the_disk(trial):
@@ -382,7 +383,8 @@ def fills_the_disk(trial):
         yield "of one transfer some thousand messages are taken, and the bank is told", words == [
             "TAKEN"] * 2000 + ["FORBIDDEN"] * 2, str(
                 [words.count(word) for word in ("TAKEN", "FORBIDDEN")])
-        yield "other transfers go on", posts(it, hub, "lutefrpp", 3)
+        yield "other transfers go on, and the beneficiary bank answers", posts(it, hub, "lutefrpp", 3) and it.words(
+            hub, "scalbebb", confirmation(SCA, LUX, 2)) == ["TAKEN"]
 
 
 def has_a_quota(trial):
@@ -479,7 +481,7 @@ CHECKS = [asks_much, asks_for_deltas, lists_what_comes, fills_the_disk, makes_no
 
 
 def check(python, program):
-    return tried_with_library("harms", CHECKS, python, program)
+    return tried_with_tls("harms", CHECKS, python, program)
 
 
 if __name__ == "__main__":

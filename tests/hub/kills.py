@@ -235,12 +235,10 @@ def check(python, program):
     asked = options()
     if not asked.plain and shutil.which("openssl") is None:
         raise sites.Skipped("there is no openssl: apt-get install openssl")
-    with sites.library() if not asked.plain else contextlib.nullcontext("") as library, tempfile.TemporaryDirectory(
-            prefix="hub-kills-") as folder:
+    with tempfile.TemporaryDirectory(prefix="hub-kills-") as folder:
         port, data = sites.free_ports(SITES), pathlib.Path(folder, "hub")
         ask, words, config = asking(asked, folder, port, data)
-        return killed_hub(asked, program, ask, port,
-                          sites.Hub(python, program, data, *words, config=config, NILUPPANG_LIBRARY=library))
+        return killed_hub(asked, program, ask, port, sites.Hub(python, program, data, *words, config=config))
 
 
 def killed_hub(asked, program, ask, port, running):

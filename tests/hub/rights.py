@@ -24,7 +24,7 @@ from tests.hub.attackers import LUX, SCA, Secure, answer_of, instruction, is_cut
 from tests.hub.operators import configured
 from tests.hub.sites import Hub, asked, until, write_journal
 from tests.hub.trial import lines_of
-from tests.hub.troubles import tried_with_library
+from tests.hub.troubles import tried_with_tls
 sys.path.insert(0, str(SERVICES))
 from hub import certificates
 from hub.files import Wrong
@@ -342,7 +342,7 @@ CHECKS = [expires, ends_peers, revokes, knows_sums, reads_certificates, asks_aga
 
 
 def check(python, program):
-    return tried_with_library("rights", CHECKS, python, program)
+    return tried_with_tls("rights", CHECKS, python, program)
 
 
 if __name__ == "__main__":

@@ -176,15 +176,16 @@ def knows_who_asks():
         {}, "") is access.NOBODY
     bank, peer = (roles.who(certificate("URI:spiffe://hub/lutefrpp"), ""),
                   roles.who(certificate("DNS:site2.example"), ""))
-    yield "the banks of a who have 11 characters", bank.banks == {"LUTEFRPPXXX", "HANSDEHH370"} and roles.has_banks()
+    yield "the banks of a who have 11 characters", bank.banks == {"LUTEFRPPXXX", "HANSDEHH370"}
     yield "which sites a certificate is", [roles.is_peer(n, certificate("DNS:site2.example"))
                                            for n in (2, 3, 5)] == [True, False, True]
     yield "and that one that is two at once is none", not roles.is_peer(2, certificate("DNS:site2.example",
                                                                                        "DNS:gateway.lutefrpp.example"))
-    yield "who sends in the name of a bank", [
-        roles.may_send(*it) for it in (("lutefrpp", "LUTEFRPPXXX"), ("lutefrpp", "SCALBEBBXXX"),
-                                       ("desk", "LUTEFRPPXXX"))] == [
-                                           True, False, False]
+    yield "in whose names somebody sends", [
+        its.banks_of(name, "SCALBEBBXXX") for its in (roles, access.Roles()) for name in ("lutefrpp", "desk", "x")] == [
+            {"LUTEFRPPXXX", "HANSDEHH370"}, frozenset(), frozenset(), *[{"SCALBEBBXXX"}] * 3]
+    most = access.who_of("x", [f"bank LUTEFR{number:02d}" for number in range(16)])
+    yield "sixteen banks of one", len(most.banks) == 16
     yield "a bank is no peer", not roles.is_peer(2, certificate("DNS:gateway.lutefrpp.example")) and peer.peers == {2,
                                                                                                                     5}
     yield "without a file everyone may do all", access.Roles().who(None, "Bearer x") is access.LOCAL and all(
@@ -196,6 +197,8 @@ def refuses_roles():
     name = 'certificates = ["DNS:a"]\n'
     wrong = {
         "is not a role": '[x]\nroles = ["boss"]\n' + name, "'desk ' of x": '[x]\nroles = ["desk "]\n' + name,
+        "x has 17 banks, and a client sends in the names of 16 at most":
+        f'[x]\nroles = {[f"bank LUTEFR{number:02d}" for number in range(17)]}\n{name}',
         "'bank' of x": '[x]\nroles = ["bank"]\n' + name,
         "'bank lutefrpp' of x": '[x]\nroles = ["bank lutefrpp"]\n' + name,
         "'peer 0' of x": '[x]\nroles = ["peer 0"]\n' + name,

@@ -12,13 +12,11 @@ import resource
 import socket
 import subprocess
 import sys
-import tempfile
 import threading
 import time
 from typing import Any, Callable, Iterator, NamedTuple
 from tests import harness
-from tests.harness import SERVICES, TOP
-from tools import library as libraries
+from tests.harness import SERVICES
 
 MAIN = SERVICES / "hub" / "main.py"
 PACKAGES = "python3-aiohttp"
@@ -42,34 +40,6 @@ def interpreter() -> str:
         if os.path.isfile(path) and harness.run([path, "-c", "import aiohttp"]).status == 0:
             return path
     raise Skipped(f"no Python here has aiohttp; `apt-get install {PACKAGES}` installs it for /usr/bin/python3")
-
-
-@contextlib.contextmanager
-def library() -> Iterator[str]:
-    """The path of the library: the one that a variable names, else one that is made of what the gate leaves, else a
-    stand-in of the definitions. Nothing is proved for it. A line says which it is."""
-    named = os.environ.get("NILUPPANG_LIBRARY")
-    if named and not os.path.isfile(named):
-        raise Skipped(f"there is no library {named}, which NILUPPANG_LIBRARY names")
-    with tempfile.TemporaryDirectory(prefix="hub-library-") as folder:
-        try:
-            made = named or libraries.make_shared(libraries.make_archive(folder, proves=False).parent)
-            print(f"program: the library {made}", flush=True)
-        except libraries.Missing as missing:
-            made = stand_in(folder)
-            print(f"program: the stand-in tests/standin/library.c of the definitions, since {missing}", flush=True)
-        yield os.path.abspath(made)
-
-
-def stand_in(folder: str) -> pathlib.Path:
-    """A stand-in for the library, made in a folder."""
-    path, source = pathlib.Path(folder, "libniluppang.so"), harness.STAND_IN.parent
-    words = ["-std=gnu11", "-Wall", "-Wextra", "-Werror", "-shared", "-fPIC", f"-I{TOP / 'include'}",
-             f'-DSERVER="{source / "library.py"}"']
-    done = harness.run(["gcc", *words, source / "library.c", "-o", path, "-lpthread"])
-    if done.status:
-        raise Skipped(f"the stand-in of the library is not built: {done.errors.decode(errors='replace')[:300]}")
-    return path
 
 
 def ended(check: Callable[..., Any], *words: Callable[..., Any]) -> None:

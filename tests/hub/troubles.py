@@ -318,14 +318,11 @@ def tried(name, checks, python, program):
         return right
 
 
-def tried_with_library(name, checks, python, program):
-    """The same, of checks with certificates, whose sites read the lines of banks by the library."""
-    for command in ("openssl", "gcc"):
-        if shutil.which(command) is None:
-            raise sites.Skipped(f"there is no {command}: apt-get install {command}")
-    with sites.library() as library:
-        os.environ["NILUPPANG_LIBRARY"] = library
-        return tried(name, checks, python, program)
+def tried_with_tls(name, checks, python, program):
+    """The same, of checks with certificates."""
+    if shutil.which("openssl") is None:
+        raise sites.Skipped("there is no openssl: apt-get install openssl")
+    return tried(name, checks, python, program)
 
 
 def looked_at(each, trial):

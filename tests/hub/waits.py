@@ -8,8 +8,7 @@ from tests import harness
 from tests.hub import sites
 from tests.hub.attackers import LUX, SCA, Secure, confirmation, instruction
 from tests.hub.sites import own_lines, until
-from tests.hub.trial import line_of
-from tests.hub.troubles import tried_with_library
+from tests.hub.troubles import tried_with_tls
 
 CELLS = "number, at, who, address, request, act, what, sum"
 
@@ -134,7 +133,7 @@ def drill(trial):
             :-1] == rows[:len(again) - 1] and (
                 again[-1][5] == "restore")
         yield "what waits is there", [(tx, line) for tx, _, line in waiting[:5]] == [
-            (f"T{number}", line_of(line)[:-1]) for number, line in enumerate(early, 1)], str(waiting)
+            (f"T{number}", line[:-1]) for number, line in enumerate(early, 1)], str(waiting)
         hub.start()
         sites.begun(hub.process, lambda: it.made.is_well(hub.port))
         yield "the site that is put back waits on for the same", until(lambda: set(states(it, hub))
@@ -159,7 +158,7 @@ CHECKS = [drill, halted, deaf]
 
 
 def check(python, program):
-    return tried_with_library("waits", CHECKS, python, program)
+    return tried_with_tls("waits", CHECKS, python, program)
 
 
 if __name__ == "__main__":

@@ -14,10 +14,10 @@ import pathlib
 import stat
 import sys
 sys.path.insert(0, str(pathlib.Path(__file__).resolve().parents[2]))
-from tests.embed.model import Handle
-from tests.oracle import exchange
+from tests.embed.model import Handle, Refusal, element, rows_in, transfer
+from tests.oracle import exchange, rights
 from tests.oracle.exchange import BadDelta, Fault
-from tests.oracle.status import end_with
+from tests.oracle.status import bic, day, end_with, identity, transfers
 
 MOST_READ, MOST_REQUEST = 1 << 20, 64 << 20
 OPEN, SHUT = b" ", b"\t"
@@ -32,6 +32,10 @@ CALLS = {b"vector": ("vector_text", 0), b"cut": ("cut", 1), b"entries": ("entrie
 MORE = [b"transfer", b"messages", b"report"]
 NUMBERS = [b"entries", b"digest"]  # the questions whose words are numbers
 EVALUATE = b"evaluate"  # the question whose answer is empty
+OF_BANKS = [b"transfer", b"messages", b"bank", b"report"]  # the questions that may be asked for banks
+AS, QUESTION, DELTA = b"as ", b"? ", b"delta "  # how the requests begin that are no messages
+BLANKS = b" \t\r"
+WORDS = {"NotSender": "sender", "NotOriginator": "originator", "NotBeneficiary": "beneficiary"}  # of FORBIDDEN
 
 
 # ---- requests and replies
@@ -43,6 +47,7 @@ class Serving:
         self.handle = Handle()
         self.handle.open(own, group)
         self.site = self.handle.site
+        self.filed = Filed(self.site)
 
     def ready(self):
         return f"READY {self.site.vector_text()}\n".encode()
@@ -54,20 +59,48 @@ class Serving:
         return text + b"\n", self.handle.many() > before
 
     def text(self, line):
-        if line.startswith(b"delta "):
+        if line.startswith(DELTA):
             return self.delta(line.replace(b"\t", b"\n") + b"\n").encode()
-        if line.startswith(b"? "):
-            return self.question(line[2:])
-        return self.message(line).encode() if line.strip(b" \t\r") else b""
+        if line.startswith(QUESTION):
+            return self.question(line[len(QUESTION):])
+        if line.startswith(AS):
+            return self.sent(*parted(line)).encode()
+        return self.message(line).encode() if line.strip(BLANKS) else b""
+
+    def open(self, lines):
+        """Has the lines that a journal kept. Each is a delta or a message: no other request is kept."""
+        for line in lines:
+            if line.startswith(DELTA):
+                self.reply(line)
+            elif not line.startswith((QUESTION, AS)):
+                self.message(line)
 
     def message(self, line):
         message, refused = exchange.message_in(line)
-        if refused:
-            return f"REFUSED {refused}"
+        return f"REFUSED {refused}" if refused else self.taken(message)
+
+    def taken(self, message):
         if message in self.site.messages:
             return "REPEAT"
         self.site.take(message)
         return f"TAKEN {self.site.have(self.site.own)}"
+
+    def sent(self, text, line):
+        """The reply to a line that is sent in the name of the banks of a text."""
+        banks = rights.banks_in(text.decode("latin-1"))
+        if banks is None:
+            return "REFUSED 73 1"
+        if not line.strip(BLANKS) or line.startswith((DELTA, QUESTION, AS)):
+            return "REFUSED 31"
+        message, refused = exchange.message_in(line)
+        if refused:
+            return f"REFUSED {refused}"
+        word, *more = rights.verdict(banks, self.filed.on_same(message), message)
+        if word == "Waits":
+            return " ".join(["WAITING", *(part.decode() for part in more[0])])
+        if word in WORDS:
+            return " ".join(["FORBIDDEN", WORDS[word], *map(str, more)])
+        return self.taken(message)
 
     def delta(self, text):
         try:
@@ -82,9 +115,10 @@ class Serving:
 
     def question(self, asked):
         name, _, rest = asked.partition(b" ")
-        call, many = CALLS.get(name, (None, 0))
-        words = asked.split(b" ", many if name in MORE else -1)[1:]
-        if call is None or len(words) != many:
+        if name == b"of":
+            return self.question_of(*rest.partition(b" ")[::2])
+        call, words = called(asked)
+        if call is None:
             return b"REFUSED 64"
         if name == EVALUATE:
             return b"TEXT 0\n"
@@ -97,9 +131,94 @@ class Serving:
             return b"TEXT %d\n%s" % (len(text), text)
         return f"REFUSED {fields['code']}{' %d' % fields['place'] * (fields['place'] > 0)}".encode()
 
+    def question_of(self, text, asked):
+        """The reply to a question that is asked for the banks of a text."""
+        name, (call, words) = asked.partition(b" ")[0], called(asked)
+        if name not in OF_BANKS or call is None:
+            return b"REFUSED 64"
+        banks = rights.banks_in(text.decode("latin-1"))
+        if banks is None:
+            return b"REFUSED 73 1"
+        try:
+            answer = getattr(self, name.decode() + "_of")(banks, *words).encode()
+        except Refusal as refused:
+            # the banks have the first place
+            place = f" {refused.place + 1 if refused.code == 73 else refused.place}" if refused.place else ""
+            return f"REFUSED {refused.code}{place}".encode()
+        return b"TEXT %d\n%s" % (len(answer), answer)
+
+    def transfer_of(self, banks, bank, tx):
+        its = transfer(bank, tx)
+        return rights.transfer_text(banks, self.filed.near(its), its)
+
+    def messages_of(self, banks, bank, tx):
+        its = transfer(bank, tx)
+        return rights.messages_text(banks, self.filed.near(its), its)
+
+    def bank_of(self, banks, bank):
+        return rights.bank_text(banks, self.site.messages, one_of(banks, element(bic, bank, 1)))
+
+    def report_of(self, banks, bank, at, rows):
+        bank, at = element(bic, bank, 1), element(day, at, 2)
+        its = one_of(banks, bank)
+        return rights.report_for(banks, self.site.messages, its, at, rows_in(rows.replace(b"\t", b"\n")))
+
+
+class Filed:
+    """The messages of a site by transfer and by identity. An answer on one transfer needs a few of them."""
+
+    def __init__(self, site):
+        self.site, self.many, self.on, self.of = site, 0, {}, {}
+
+    def file(self):
+        """Files what is new."""
+        for message in self.site.arrivals[self.many:]:
+            self.of.setdefault(identity(message), set()).add(message)
+            for its in transfers(message):
+                self.on.setdefault(its, set()).add(message)
+        self.many = len(self.site.arrivals)
+
+    def on_same(self, message):
+        """The messages on the transfers of a message."""
+        self.file()
+        return set().union(*(self.on.get(its, set()) for its in transfers(message)))
+
+    def near(self, its):
+        """The messages on a transfer, all of their identities, and all on the transfers that they name: the others
+        change no answer on this transfer."""
+        self.file()
+        on = self.on.get(its, set())
+        return set().union(*(self.of[identity(message)] for message in on), *map(self.on_same, on))
+
+
+def one_of(banks, bank):
+    """A bank, which must be one of some banks."""
+    if bank not in banks:
+        raise Refusal("79")
+    return bank
+
+
+def parted(line):
+    """The banks and the line of a request `as`."""
+    banks, _, sent = line[len(AS):].partition(b" ")
+    return banks, sent
+
+
+def called(asked):
+    """The call that a question names, and its words. No call if there is none, or if it has other words."""
+    name = asked.partition(b" ")[0]
+    call, many = CALLS.get(name, (None, 0))
+    words = asked.split(b" ", many if name in MORE else -1)[1:]
+    return (call, words) if len(words) == many else (None, [])
+
 
 def is_question(line):
-    return line.startswith(b"? ")
+    return line.startswith(QUESTION)
+
+
+def kept_of(line):
+    """What a journal keeps of a request that brought its site an entry: of `as` the line alone."""
+    return parted(line)[1] if line.startswith(AS) else line
 
 
 def rounds_of(lines):
@@ -246,7 +365,7 @@ def replied(serving, journal, lines):
     """The replies of a round, once its lines are on the disk."""
     both = [serving.reply(line) for line in lines]
     with failing_by(78):
-        journal.append([line for line, (_, brings) in zip(lines, both) if brings])
+        journal.append([kept_of(line) for line, (_, brings) in zip(lines, both) if brings])
     return b"".join(reply for reply, _ in both)
 
 
@@ -261,9 +380,7 @@ def life(words):
     with failing_by(78):
         journal = Journal(words[2], header(own, group))
     serving = Serving(own, group)
-    for line in journal.lines:
-        if not is_question(line):
-            serving.reply(line)
+    serving.open(journal.lines)
     written(serving.ready())
     for lines in requests():
         written(replied(serving, journal, lines))

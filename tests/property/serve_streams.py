@@ -3,9 +3,12 @@ they say.
 
 Each of 200 streams goes to one site of a small group, in writes that are cut anywhere. There are messages that confirm,
 recall and contradict each other, in any form, refused lines and lists, blank lines, repeats, deltas of peers, of the
-site itself and of nobody, and all questions, also wrong ones. After a stream the site starts again on its journal, and
-gets another stream. tests/oracle/serve.py has each reply to the byte, but for `? changes`, which tests/embed/model.py
-judges, and the bytes of the journal.
+site itself and of nobody, and all questions, also wrong ones. Lines are sent and questions are asked in the name of banks,
+too. After a stream the site starts again on its journal, and gets another stream. tests/oracle/serve.py has each reply
+to the byte, but for `? changes`, which tests/embed/model.py judges, and the bytes of the journal.
+
+An answer for banks must also be that of the definitions on all that is held: tests/oracle/serve.py gives these only what
+is near the transfer.
 """
 import collections
 import concurrent.futures
@@ -16,8 +19,8 @@ import re
 import tempfile
 from tests import harness
 from tests.embed import model
-from tests.oracle import exchange, serve
-from tests.oracle.status import read_message
+from tests.oracle import exchange, rights, serve
+from tests.oracle.status import identity, read_message, transfers
 from tests.property import cases
 from tests.property.messages import BANKS, Pool, shuffled
 from tests.property.worlds import refused_list, refused_text
@@ -30,13 +33,28 @@ BANKS_ASKED, TRANSFERS_ASKED = [*BANKS, "NOBODYXX", "bankdeff"], ["T1", "T2", "T
 SHARES = {"message": 40, "repeat": 6, "refused_line": 5, "refused_recall": 2, "blank": 3,
           "delta": 8, "any_delta": 6, "damaged": 2,
           "question": 8, "one_question": 8, "entries": 6, "digest": 6, "digests": 4,
-          "report": 3, "changes": 4, "wrong_question": 3}
+          "report": 3, "changes": 4, "wrong_question": 3, "as_banks": 30, "as_oddly": 4, "of_banks": 24, "of_oddly": 3}
 QUESTIONS = [name.decode() for name in serve.CALLS]
 TO_MEET = ["TAKEN", "REPEAT", "blank", "ACCEPTED 0", "ACCEPTED", "form 1", *(f"REFUSED {number}" for number in [
     31, 32, 33, 34, 35, 36, 37, 38, 41, 42, 43, 44, 45, 46, 48, 56, 64, 72, "73 1", "73 2", "73 3"]),
            *(f"? {name}" for name in QUESTIONS),
            "changes after changes", "no entries", "an entry without room", "some entries", "all entries",
-           "a digest of none", "a digest of some", "a digest of all"]
+           "a digest of none", "a digest of some", "a digest of all",
+           *(f"as {it}" for it in ["TAKEN", "REPEAT", "WAITING", "FORBIDDEN sender", "FORBIDDEN originator",
+                                   "FORBIDDEN beneficiary", "REFUSED 31", "REFUSED 33", "REFUSED 36", "REFUSED 56",
+                                   "REFUSED 73 1"]),
+           *(f"of {it}" for it in ["transfer", "messages", "bank", "report", "REFUSED 48", "REFUSED 64", "REFUSED 73 1",
+                                   "REFUSED 73 2", "REFUSED 73 3", "REFUSED 79"]),
+           "a transfer of theirs", "a transfer of others", "a recall in part", "an instruction to several banks",
+           "an answer without its instruction is theirs", "a later transaction of others",
+           "a contradiction by a message of others"]
+
+
+class Mixed(Pool):
+    """A pool of messages of which each bank is the originator bank as often as the others."""
+
+    def debtor_bank(self):
+        return self.r.choice(self.banks)
 
 
 class Stream(Requests):
@@ -44,8 +62,19 @@ class Stream(Requests):
 
     def __init__(self, r, own, group):
         super().__init__(r, own, group, SHARES)
-        self.own, self.pool, self.lines = own, Pool(r), []
+        self.own, self.pool, self.lines = own, r.choice([Pool, Mixed])(r), []
         self.messages = [self.pool.message() for _ in range(r.randint(5, 50))]
+        self.messages += [self.rival(one) for one in r.sample(self.messages, len(self.messages) // 4)]
+
+    def rival(self, message):
+        """A message with the identity of another one, about another transfer of any banks. A list has other
+        transactions."""
+        r = self.r
+        if "TxInf" in message:
+            return {**message, "TxInf": r.choice([message["TxInf"][1:], []]) or self.pool.transactions()}
+        banks = {key: r.choice(BANKS) for key in ("DbtrAgt", "CdtrAgt") if key in message}
+        name = "TxId" if "TxId" in message else "OrgnlTxId"
+        return {**message, **banks, name: r.choice([*self.pool.transfers, "T7", "T8"])}
 
     def text(self):
         return shuffled(self.r, self.r.choice(self.messages))
@@ -112,6 +141,37 @@ class Stream(Requests):
     def changes(self):
         return b"? changes"
 
+    def banks(self):
+        """A text that lists banks, each in either form."""
+        r = self.r
+        some = r.sample(BANKS, r.choice([1, 1, 1, 2, 3])) + r.choice([[], [], ["NOBODYXX"]])
+        return ",".join(bank + r.choice(["", "XXX"]) for bank in some).encode()
+
+    def as_banks(self):
+        """A message in the name of banks, which may be its own, or a line that is none."""
+        draw = self.r.random()
+        line = self.message() if draw < 0.85 else self.refused_line() if draw < 0.95 else self.refused_recall()
+        return b"as %s %s" % (self.banks(), line)
+
+    def as_oddly(self):
+        """A line in the name of no banks, or what is no message in the name of some."""
+        r = self.r
+        banks = r.choice([b"", b"X", b"BANKDEFF,", b",BANKDEFF", b"BANKDEFF,bankdeff", b",".join([b"BANKDEFF"] * 17)])
+        others = [self.one_question(), self.any_delta(), b"as BANKDEFF " + self.text(), super().blank()]
+        return r.choice([b"as %s %s" % (banks, self.text()), b"as %s %s" % (self.banks(), r.choice(others)),
+                         b"as %s" % self.banks(), b"as "])
+
+    def of_banks(self):
+        line = self.report() if self.r.random() < 0.2 else self.one_question()
+        return b"? of %s %s" % (self.banks(), line[2:])
+
+    def of_oddly(self):
+        """A question for no banks, or one that is not asked for banks."""
+        r = self.r
+        banks = r.choice([b"", b"x", b"BANKDEFF;BANQFRPP", self.banks()])
+        line = r.choice([self.one_question(), self.digest(), self.digests(), self.wrong_question(), b"? status"])
+        return r.choice([b"? of %s %s" % (banks, line[2:]), b"? of %s" % banks, b"? of"])
+
 
 def room_of(line, wanted, site):
     """What a question for entries meets that has numbers for words, by the text that it must have."""
@@ -142,8 +202,43 @@ def kind_of(line, reply):
     text = reply[:-1].decode(errors="replace")
     if text in ("", "ACCEPTED 0"):
         return text or "blank"
-    number = re.match(r"REFUSED (73 \d|\d+)", text)
+    number = re.match(r"REFUSED (73 \d|\d+)|FORBIDDEN \w+", text)
     return number.group() if number else text.partition(" ")[0]
+
+
+def kinds_of(line, reply, site):
+    """What a request meets by its reply, and by what the site holds."""
+    if line.startswith(b"as "):
+        later = reply.startswith(b"FORBIDDEN originator") and reply != b"FORBIDDEN originator 1\n"
+        return [f"as {kind_of(b'', reply)}", *(["a later transaction of others"] if later else [])]
+    if not line.startswith(b"? of "):
+        return [kind_of(line, reply)]
+    if not reply.startswith(b"TEXT"):
+        return [f"of {kind_of(b'', reply)}"]
+    _, _, banks, name, *words = line.split(b" ")
+    banks = rights.banks_in(banks.decode())
+    return [f"of {name.decode()}", *met_on(banks, model.transfer(words[0], b" ".join(words[1:])), name, reply, site)
+            ] if name in (b"transfer", b"messages") else [f"of {name.decode()}"]
+
+
+def met_on(banks, its, name, reply, site):
+    """What a question for banks on a transfer meets. Its answer must be that of the definitions on all that is held."""
+    texts = {b"transfer": rights.transfer_text, b"messages": rights.messages_text}
+    text = texts[name](banks, site.messages, its).encode()
+    if reply != b"TEXT %d\n%s\n" % (len(text), text):
+        raise Differs(f"{name!r} of {banks} on {its}: the definitions have {text!r}")
+    is_theirs = rights.is_theirs(banks, site.messages, its)
+    yield "a transfer of theirs" if is_theirs else "a transfer of others"
+    if is_theirs and its[0].decode() not in banks and not rights.instructions(site.messages, its):
+        yield "an answer without its instruction is theirs"
+    seen = rights.on_transfer(rights.visible_on(banks, site.messages, its), its)
+    if name == b"messages" and any(rights.shown(banks, site.messages, one) != one for one in seen):
+        yield "a recall in part"
+    rivals = [one for one in rights.visible(banks, site.messages) if identity(one) in set(map(identity, seen))]
+    if any(not any(rights.is_theirs(banks, site.messages, key) for key in transfers(one)) for one in rivals):
+        yield "a contradiction by a message of others"
+    if len({dict(one[2][0])["CdtrAgt"] for one in seen if one[0] == "pacs.008"}) > 1:
+        yield "an instruction to several banks"
 
 
 def is_right(line, wanted, found, before, now):
@@ -178,8 +273,8 @@ def life(r, program, path, stream, site, met):
         wanted, brings = serving.reply(line)
         if not is_right(line, wanted, found, before, frozenset(serving.site.messages)):
             raise Differs(f"{line!r}\n wanted {wanted!r}\n found {found!r}")
-        lines += [line] if brings else []
-        met[kind_of(line, wanted)] += 1
+        lines += [serve.kept_of(line)] if brings else []
+        met.update(kinds_of(line, wanted, serving.site))
         if line.startswith(b"? entries ") and wanted.startswith(b"TEXT"):
             met[room_of(line, wanted, serving.site)] += 1
         if line.startswith(b"? digest ") and wanted.startswith(b"TEXT"):

@@ -1,7 +1,8 @@
-"""serve_examples.py: `serve` does what its page says of nine short lives, and what examples/serve says of two, byte for
+"""serve_examples.py: `serve` does what its page says of ten short lives, and what examples/serve says of two, byte for
 byte.
 
-The messages of the nine are an instruction of one euro and its confirmation. What has to come is written here by hand.
+The messages of nine are an instruction of one euro and its confirmation. In the tenth banks send messages and ask in
+their names. What has to come is written here by hand.
 A file that a crash leaves between its two syncs is made by hand too. In examples/serve the lives of a morning and of an
 evening are on one journal. NAME.requests is standard input, NAME.replies what must be written, and `journal` the file
 after both.
@@ -9,6 +10,7 @@ after both.
 import hashlib
 import pathlib
 import tempfile
+from bench.generate import samples
 from tests import harness
 from tests.golden.made_inputs import REPORT_WRITTEN, TRANSFER_WRITTEN
 from tests.harness import EXAMPLES, reported
@@ -50,6 +52,40 @@ NO_DIGESTS = {b"1 3": b"73 2", b"2 1": b"73 2", b"1024 1": b"73 2", b"1 18446744
               b"1025 0": b"73 1", b"x x": b"73 1",
               b" 0": b"73 1", b"1": b"64", b"": b"64", b"1 0 0": b"64", b"1 0 ": b"64"}
 KILLS = 10
+# a recall of T1 and T2 as it is written, and as a bank of T1 alone is shown it
+PART = (b'"Ccy":"EUR","CxlId":"R1","DbtrAgt":"BANKDEFFXXX","OrgnlIntrBkSttlmAmt":"1.00","OrgnlMsgId":"M1",'
+        b'"OrgnlMsgNmId":"pacs.008","OrgnlTxId":"%s","Rsn":"FRAD"')
+RECALL_WRITTEN = (b'{"CreDtTm":"2024-05-03T09:00:00Z","InstgAgt":"BANKDEFFXXX","MsgId":"K1","MsgNmId":"camt.056",'
+                  b'"TxInf":[{' + PART % b"T1" + b"},{" + PART % b"T2" + b"}]}\n")
+RECALL_SHOWN = (b'{"Ccy":"EUR","CreDtTm":"2024-05-03T09:00:00Z","CxlId":"R1","DbtrAgt":"BANKDEFFXXX",'
+                b'"InstgAgt":"BANKDEFFXXX","MsgId":"K1","MsgNmId":"camt.056","OrgnlIntrBkSttlmAmt":"1.00",'
+                b'"OrgnlMsgId":"M1","OrgnlMsgNmId":"pacs.008","OrgnlTxId":"T1","Rsn":"FRAD"}\n')
+# requests in the name of banks that are refused, each with its reply
+REFUSED_AS = [(b"as X " + A8, b"REFUSED 73 1\n"), (b"as " + A8, b"REFUSED 73 1\n"), (b"as ", b"REFUSED 73 1\n"),
+              (b"as  " + A8, b"REFUSED 73 1\n"), (b"as BANKDEFF, " + A8, b"REFUSED 73 1\n"),
+              (b"as BANKDEFF,X " + A8, b"REFUSED 73 1\n"),
+              (b"as " + b",".join([b"BANKDEFF"] * 17) + b" " + A8, b"REFUSED 73 1\n"),
+              (b"as " + b",".join([b"BANKDEFF"] * 16) + b" " + A8, b"REPEAT\n"),
+              (b"as BANKDEFF", b"REFUSED 31\n"), (b"as BANKDEFF ", b"REFUSED 31\n"),
+              (b"as BANKDEFF \t\r ", b"REFUSED 31\n"), (b"as BANKDEFF delta 2\tend 0", b"REFUSED 31\n"),
+              (b"as BANKDEFF ? status", b"REFUSED 31\n"), (b"as BANKDEFF as BANKDEFF " + A8, b"REFUSED 31\n"),
+              (b"as", b"REFUSED 31\n"), (b"as BANKDEFF  " + A8 + b"\r", b"REPEAT\n"), (b"as X {}", b"REFUSED 73 1\n")]
+# the same of questions
+REFUSED_FOR_BANKS = [(b"? of", b"REFUSED 64\n"), (b"? of BANKDEFF", b"REFUSED 64\n"),
+                     (b"? of BANKDEFF archive", b"REFUSED 64\n"), (b"? of BANKDEFF transfer BANKDEFF", b"REFUSED 64\n"),
+                     (b"? of BANKDEFF bank", b"REFUSED 64\n"),
+                     (b"? of BANKDEFF of BANKDEFF transfer BANKDEFF T1", b"REFUSED 64\n"),
+                     (b"? of  transfer BANKDEFF T1", b"REFUSED 73 1\n"),
+                     (b"? of BANKDEFF transfer x T1", b"REFUSED 73 2\n"),
+                     (b"? of BANKDEFF messages BANKDEFF /T", b"REFUSED 73 3\n"),
+                     (b"? of BANKDEFF bank x", b"REFUSED 73 2\n"),
+                     (b"? of BANKDEFF report BANKDEFF x DbtrAgt,TxId,Amt,Sts", b"REFUSED 73 3\n"),
+                     (b"? of BANKDEFF report BANQFRPP 2024-05-02 DbtrAgt,TxId,Amt,Sts", b"REFUSED 79\n"),
+                     (b"? of BANKDEFF report BANKDEFF 2024-05-02 DbtrAgt", b"REFUSED 48 1\n")]
+# the report that a bank of T2 gets on a list that names T1
+REPORT_FOR_OTHER = (b"DbtrAgt,TxId,Result,ListAmt,ListSts,Amt,Sts\n"
+                    b"BANKDEFFXXX,T1,ONLY_IN_LIST,1.00,ACCEPTED,,UNKNOWN\n"
+                    b"BANKDEFFXXX,T2,ONLY_IN_ARCHIVE,,,1.00,PENDING\n")
 
 
 def served(program, path, data, text, journal=None, site=(1, 2)):
@@ -188,6 +224,75 @@ def ninth(program, folder):
     yield "9: what was asked before changes nothing", served(program, folder / "ninth2", data, text, WHOLE)
 
 
+def sent(made, *words, **elements):
+    """A sample message with some elements, as a line."""
+    return samples.line(made(*words, **elements))[:-1].encode()
+
+
+def text_of(text):
+    """The reply that has a text."""
+    return b"TEXT %d\n%s\n" % (len(text), text)
+
+
+def tenth(program, folder):
+    """Banks send messages, and ask, each in its own name."""
+    path, line = folder / "tenth", b"T|BANKDEFFXXX|T1|%s\n"
+    lives = [(b"as BANQFRPP " + A2, b"WAITING BANKDEFFXXX T1\n"), (b"as BANQFRPP " + A8, b"FORBIDDEN sender\n"),
+             (b"as BANKDEFF " + A8, b"TAKEN 1\n"), (b"as BANKDEFF " + A8, b"REPEAT\n"),
+             (b"as BANQFRPP " + A2, b"TAKEN 2\n")]
+    yield "10: a confirmation waits for its instruction", answers(program, path, lives, b"READY -\n", WHOLE)
+    lives = [(b"as BANKITMM " + sent(samples.confirmation, InstgAgt="BANKITMM"), b"FORBIDDEN beneficiary\n"),
+             (b"as BANKITMM " + sent(samples.instruction, InstgAgt="BANKITMM"), b"FORBIDDEN originator 1\n"),
+             (b"as BANKITMM {}", b"REFUSED 33\n"),
+             (b"as BANKDEFF " + sent(samples.recall, [samples.transaction(), samples.transaction(DbtrAgt="BANKITMM")]),
+              b"FORBIDDEN originator 2\n")]
+    yield "10: no other bank speaks about it", answers(program, path, lives, b"READY 1:2\n", WHOLE)
+    lives = [(b"? of BANKDEFF transfer BANKDEFF T1", text_of(line % b"ACCEPTED")),
+             (b"? of BANQFRPP,BANKITMM transfer BANKDEFF T1", text_of(line % b"ACCEPTED")),
+             (b"? of BANKITMM transfer BANKDEFF T1", text_of(line % b"UNKNOWN"))]
+    yield "10: its banks are told of it", answers(program, path, lives, b"READY 1:2\n", WHOLE)
+    both = sent(samples.recall, [samples.transaction(), samples.transaction(OrgnlTxId="T2")])
+    to_other = sent(samples.instruction, MsgId="M2", TxId="T2", CdtrAgt="BANKITMM")
+    whole = WHOLE[:-1] + b" " + to_other + b"\n " + both + b"\n\t"
+    seen = [RECALL_WRITTEN + WRITTEN, RECALL_SHOWN + WRITTEN]
+    lives = [(b"as BANKDEFF " + to_other, b"TAKEN 3\n"), (b"as BANKDEFFXXX " + both, b"TAKEN 4\n"),
+             (b"? of BANKDEFF messages BANKDEFF T1", text_of(seen[0])),
+             (b"? of BANQFRPP messages BANKDEFF T1", text_of(seen[1]))]
+    yield "10: of a recall a bank is shown what is on its transfer", answers(program, path, lives, b"READY 1:2\n", whole)
+    lives = [(b"? of BANKITMM bank BANKDEFF", b"REFUSED 79\n"), (b"? of BANKITMM status", b"REFUSED 64\n"),
+             (b"? of X transfer BANKDEFF T1", b"REFUSED 73 1\n"), *REFUSED_FOR_BANKS]
+    yield "10: questions that are refused", answers(program, path, lives, b"READY 1:4\n", whole)
+    yield "10: lines that are refused", answers(program, path, REFUSED_AS, b"READY 1:4\n", whole)
+    yield "10: the answers of a hub that holds nothing else", answers(
+        program, path, [(b"? of BANKITMM report BANKITMM 2024-05-02 DbtrAgt,TxId,Amt,Sts\tBANKDEFF,T1,1.00,ACCEPTED\t",
+                         text_of(REPORT_FOR_OTHER)),
+                        (b"? of BANKITMM bank BANKITMM", text_of(b"BANKITMMXXX|0|0.00|0.00|0|0|0|0|0|0.00|0.00\n"))],
+        b"READY 1:4\n", whole)
+    lives = [(A2, b"TAKEN 1\n"), (b"? of BANQFRPP transfer BANKDEFF T1", text_of(line % b"MISSING")),
+             (b"? of BANKITMM transfer BANKDEFF T1", text_of(line % b"UNKNOWN")),
+             (b"as BANKDEFF " + sent(samples.instruction, CdtrAgt="BANKITMM"), b"TAKEN 2\n"),
+             (b"? of BANQFRPP transfer BANKDEFF T1", text_of(line % b"UNKNOWN")),
+             (b"? of BANKITMM transfer BANKDEFF T1", text_of(line % b"ACCEPTED"))]
+    yield "10: who answered too early sees its transfer until its instruction comes", answers(
+        program, folder / "tenth3", lives, b"READY -\n", HEAD + b" " + A2 + b"\n " + sent(
+            samples.instruction, CdtrAgt="BANKITMM") + b"\n\t")
+    rival = sent(samples.instruction, TxId="T9", CdtrAgt="BANKITMM")  # with the identity of A8
+    finding = b"F|BANKDEFFXXX|T1|Identity|BANKDEFFXXX|pacs.008|M1\n"
+    lives = [(b"as BANKDEFF " + A8, b"TAKEN 1\n"), (b"as BANKDEFF " + rival, b"TAKEN 2\n"),
+             (b"? of BANQFRPP messages BANKDEFF T1", text_of(TRANSFER_WRITTEN.encode())),
+             (b"? of BANQFRPP transfer BANKDEFF T1", text_of(line % b"CONTRADICTED" + finding)),
+             (b"? of BANQFRPP transfer BANKDEFF T9", text_of(b"T|BANKDEFFXXX|T9|UNKNOWN\n"))]
+    kept = HEAD + b" " + A8 + b"\n " + rival + b"\n\t"
+    yield "10: a contradiction is seen, and not the message that contradicts", answers(
+        program, folder / "tenth2", lives, b"READY -\n", kept)
+
+
+def answers(program, path, lives, ready, journal):
+    """Whether a life on a journal gives each request its reply, and leaves this journal."""
+    return served(program, path, b"".join(request + b"\n" for request, _ in lives),
+                  ready + b"".join(reply for _, reply in lives), journal)
+
+
 def shown(program, folder):
     """The lives of examples/serve: a morning of site 2 of three, and its evening."""
     path, place = folder / "shown", EXAMPLES / "serve"
@@ -202,7 +307,7 @@ def main():
     program = harness.program()
     with tempfile.TemporaryDirectory() as folder:
         harness.end_of([reported(name, right)
-                        for example in (first, second, third, fourth, fifth, sixth, seventh, eighth, ninth, shown)
+                        for example in (first, second, third, fourth, fifth, sixth, seventh, eighth, ninth, tenth, shown)
                         for name, right in example(program, pathlib.Path(folder))])
 
 

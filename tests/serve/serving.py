@@ -134,8 +134,7 @@ def delta_line(text: Any) -> Any:
 def restored(own: Any, group: Any, lines: Any) -> Any:
     """The site that a journal with these lines gives."""
     serving = serve.Serving(own, group)
-    for line in lines:
-        serving.reply(line)
+    serving.open(lines)
     return serving
 
 
