@@ -364,7 +364,7 @@ def counts_what_is_accepted():
     logging.disable(logging.CRITICAL)
 
     async def all_of():
-        return [one async for its in (counts_accepted, counts_at_once) async for one in its()]
+        return [one for its in (counts_accepted, counts_at_once) async for one in its()]
     return asyncio.run(all_of())
 
 
