@@ -82,11 +82,13 @@ def by_wrong_files(browser, checks, folder):
 
 
 def chosen(browser, selector, path):
-    """Chooses a file that the page does not read yet, and changes it."""
+    """Chooses a file that the page does not read yet, and changes it. The browser looks at a file some time after it was
+    chosen: when the file was read once, the browser knows how it was."""
     browser.value(f"window.has_come = false; window.kept_order = at('{selector}').onchange; "
-                  f"at('{selector}').onchange = () => {{ has_come = true; }}; 0")
+                  f"at('{selector}').onchange = () => at('{selector}').files[0].arrayBuffer().then("
+                  "() => { has_come = true; }); 0")
     browser.give(f"#{selector}", path)
-    browser.until("has_come")  # the browser says so a moment later
+    browser.until("has_come")
     browser.value(f"at('{selector}').onchange = kept_order")
     path.write_bytes(b"{}\n")
 
