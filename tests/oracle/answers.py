@@ -1,5 +1,5 @@
-"""answers.py: what a site answers on a set of messages, by the definitions alone: the lines of a transfer, the line of a
-bank, and the report on a list.
+"""answers.py: what a site answers on a set of messages, by the definitions alone: the lines of a transfer, the line of
+a bank, and the report on a list.
 
 Messages and their words are those of status.py.
 """
