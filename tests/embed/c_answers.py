@@ -290,7 +290,8 @@ def refused_to_banks():
                                                         samples.confirmation(InstgAgt="BANKITMM"))]
     early = samples.line(samples.confirmation(OrgnlTxId="T9")).encode()
     yield from [(("take_as", 0, other, instruction(3).encode()), 80, 0, "80"),
-                (("take_as", 0, other, of_others[0]), 81, 1, "81 1"), (("take_as", 0, other, of_others[1]), 82, 0, "82"),
+                (("take_as", 0, other, of_others[0]), 81, 1, "81 1"),
+                (("take_as", 0, other, of_others[1]), 82, 0, "82"),
                 (("take_as", 0, b"BANQFRPP", early), 83, 0, "83 BANKDEFFXXX T9"),
                 (("take_as", 0, b"BANKDEFF,", b"{}"), 73, 1, "73 1"), (("take_as", 0, BANK, b"{}"), 33, 0, "33")]
     yield from [(("transfer_text_for", 0, BANK, b"", b"T1"), 73, 2, "73 2"),
@@ -549,15 +550,20 @@ def names(folder):
 
 
 def asked_for(program, held):
-    """How often questions about one transfer ask for memory, after a take at a site that holds some messages."""
-    lines = "".join(messages.lines(held)).encode()
-    questions = [("transfer_text", 0, BANK, b"T1"), ("bank_totals", 0, BANK), ("changes", 0)]
+    """How often calls about one transfer or one bank ask for memory, after a take at a site that holds some
+    messages."""
+    lines, of_one = "".join(messages.lines(held)).encode(), [BANK, BANK, b"T1"]
+    questions = [("transfer_text", 0, BANK, b"T1"), ("bank_totals", 0, BANK), ("changes", 0),
+                 ("transfer_text_for", 0, *of_one), ("messages_text_for", 0, *of_one),
+                 ("bank_totals_for", 0, BANK, BANK), ("report_for", 0, BANK, BANK, DAY, b"DbtrAgt,TxId,Amt,Sts\n"),
+                 ("take_as", 0, BANK, instruction(99).encode()),
+                 ("take_as", 0, b"BANQFRPP", confirmation(1).encode())]
     taken = [(("take", 0, instruction(number).encode()), question) for number, question in enumerate(questions, 1)]
-    requests = [("open", 0, 1, 1), ("take_lines", 0, lines), ("changes", 0),
+    requests = [("open", 0, 1, 1), ("take_lines", 0, lines), ("changes", 0), ("transfer_text_for", 0, *of_one),
                 *(request for pair in taken for request in pair)]
     replies = driving.asked(program, requests)
     whole = replies[1].fields["ok"] == 1 and replies[1].fields["fresh"] == held
-    return whole, [reply.asked for reply in replies[4::2]]
+    return whole, [reply.asked for reply in replies[5::2]]
 
 
 def progress(program):
@@ -581,7 +587,7 @@ def progress(program):
 
 
 def costs(program):
-    """A question after a take evaluates what is new, and not what is held. A long text is taken whole."""
+    """A question after a take evaluates and files what is new, and not what is held. A long text is taken whole."""
     (few_whole, few), (many_whole, many) = (asked_for(program, held) for held in HELD)
     yield reported(f"all {HELD} messages of a text are taken", few_whole and many_whole)
     grown = all(after <= 2 * before + 9 for before, after in zip(few, many))

@@ -179,6 +179,9 @@ def shown(program):
                 of_messages(OTHER, b"T2", FLAT % b"T2", TO_OTHER_LINE))
     yield tried(program, "a recall of others", *every, of_transfer(PAID, b"T2", UNKNOWN % b"T2"),
                 of_transfer(PAID, b"T1", ACCEPTED + b"R|BANKDEFFXXX|T1|R1|OPEN\n"))
+    own = text(recall([transaction(), transaction(OrgnlTxId="T2")], InstgAgt="BANQFRPP"))
+    yield tried(program, "a recall of one's own", *held(A8, TO_OTHER, own), of_messages(
+        PAID, b"T1", A8_LINE, WHOLE.replace(b'"InstgAgt":"BANKDEFFXXX"', b'"InstgAgt":"BANQFRPPXXX"')))
     alike = text(recall([transaction(), transaction(OrgnlTxId="T2", Rsn="DUPL")]))  # with the identity of RECALL
     yield tried(program, "messages that are shown alike", *held(A8, RECALL, alike),
                 of_messages(PAID, b"T1", only, A8_LINE))
