@@ -375,7 +375,7 @@ SCT_CALL SCT_READ sct_outcome sct_site_bank_totals(sct_site *site, const uint8_t
  * On a transfer that is theirs the answers are those of a site that holds the messages on transfers of theirs, and with each of them all
  * messages of its identity: the same lines and the same row of a report as without banks. On every other transfer the answers are those of
  * a site that holds nothing. So no answer depends on a message on transfers of others, on what a recall says of one, or on the message
- * from which a contradicted one differs. */
+ * from which a contradicted one differs. The first wrong argument is refused by 73, then a bank of others by 79, and then a list by 48. */
 
 /* As sct_site_transfer_text, for banks. A transfer that is not theirs has the line `T|BANK|TX|UNKNOWN`.
  * Refusals: 65, 70, 73 (1: the banks, 2: the bank, 3: the identification). */
