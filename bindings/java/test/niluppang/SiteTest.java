@@ -325,8 +325,9 @@ public final class SiteTest {
             is("the transfer that is waited for: " + one[1], failure(() -> site.takeAs("BANQFRPP", one[0])) instanceof NiluppangException waits
                 && waits.waitsFor().equals(Optional.of(new Site.Transfer("BANKDEFFXXX", one[1]))));
         }
-        is("no other refusal waits", failure(() -> site.takeAs("BANKITMM", instruction(4))) instanceof NiluppangException other
-            && other.waitsFor().isEmpty());
+        String wrong = instruction(4).replace("\"BANQFRPP\"", "\"B\"");
+        is("no other refusal waits", failure(() -> site.takeAs("BANKDEFF", wrong)) instanceof NiluppangException other
+            && other.reason().equals("36 CdtrAgt 1") && other.waitsFor().isEmpty());
     }
 
     /** Each call after the site was closed. */
@@ -432,8 +433,11 @@ public final class SiteTest {
                 flat + archived(2).replace("BANQFRPP", "BANKITMM"));
             same("totals", site.bankTotalsFor("BANQFRPP", "BANQFRPP"), "BANQFRPPXXX|0|0.00|0.00|0|0|0|0|1|1.00|0.00\n");
             byte[] list = bytes("DbtrAgt,TxId,Amt,Sts\nBANKDEFF,T1,1.00,ACCEPTED\nBANKDEFF,T2,1.00,PENDING\n");
-            same("a report", site.reportFor("BANQFRPP", "BANQFRPP", "2024-05-02", list), "DbtrAgt,TxId,Result,ListAmt,ListSts,Amt,Sts\n"
-                + "BANKDEFFXXX,T1,MATCHED,1.00,ACCEPTED,1.00,ACCEPTED\nBANKDEFFXXX,T2,ONLY_IN_LIST,1.00,PENDING,,UNKNOWN\n");
+            String mine = "DbtrAgt,TxId,Result,ListAmt,ListSts,Amt,Sts\nBANKDEFFXXX,T1,MATCHED,1.00,ACCEPTED,1.00,ACCEPTED\n";
+            same("a report", site.reportFor("BANQFRPP", "BANQFRPP", "2024-05-02", list),
+                mine + "BANKDEFFXXX,T2,ONLY_IN_LIST,1.00,PENDING,,UNKNOWN\n");
+            same("a report for two banks", site.reportFor("BANKITMM,BANQFRPP", "BANQFRPP", "2024-05-02", list),
+                mine + "BANKDEFFXXX,T2,MATCHED,1.00,PENDING,1.00,PENDING\n");
         }
     }
 
