@@ -333,6 +333,7 @@ class Hub {
         } else {
             const string next = next_lines(life, 1), line = next.substr(0, next.find('\n'));
             if (!life.take_as(banks(), line).ok) life.take(line);
+            if (below(3) == 0) life.take(line);  // it comes again
         }
         keep_journal(life);
     }
