@@ -10,7 +10,7 @@ and restored, and called on when they are closed. After each refusal they are as
 room without bytes is a null pointer. The address sanitizer checks driver.c and what it gives the library, and finds
 memory that is lost. model.py has what each call must come to: no crate is in it. A tenth of a usual number of calls is
 made under valgrind too, which sees each access of the library itself. Each call has to be met, and each number but 65,
-both as it is and as a why. So have answers for banks that hide a transfer, and a part of a recall.
+both as it is and as a why. So have answers for banks that hide a transfer, a part of a recall, and a row of a report.
 """
 import argparse
 import collections
@@ -50,7 +50,7 @@ RECALLED = [samples.line(one).strip().encode() for one in [
     *(samples.instruction(MsgId=f"M-{tx}", TxId=tx, CdtrAgt=bank) for tx, bank in zip(("T6", "T7"), BANKS[1:])),
     samples.recall([samples.transaction(OrgnlTxId=tx) for tx in ("T6", "T7")], MsgId="K-6")]]
 # what answers for banks meet
-FOR_BANKS = ["a transfer of others", "a recall in part"]
+FOR_BANKS = ["a transfer of others", "a recall in part", "a row of others"]
 
 # a request, the fields and the text that it must come to, and what its answer meets
 Call = collections.namedtuple("Call", "request fields text met")
@@ -89,11 +89,15 @@ class Day:
 
     def met_by(self, name, site, text):
         """What the answer of a call for banks meets."""
-        if name == "transfer_text_for" and tuple(text.split(b"|")[1:3]) in by_transfer(site.messages if site else ()):
-            yield from FOR_BANKS[:1] if text.endswith(b"|UNKNOWN\n") else []
-        elif name == "messages_text_for" and text:
-            held = status.archive_text(site.messages).encode().splitlines()
-            yield from FOR_BANKS[1:] if not set(text.splitlines()) <= set(held) else []
+        held, lines = site.messages if site else (), text.splitlines()
+        if name == "transfer_text_for":
+            yield from (FOR_BANKS[0] for line in lines if line.endswith(b"|UNKNOWN")
+                        and tuple(line.split(b"|")[1:3]) in by_transfer(held))
+        elif name == "messages_text_for" and not set(lines) <= set(status.archive_text(held).encode().splitlines()):
+            yield FOR_BANKS[1]
+        elif name == "report_for":
+            yield from (FOR_BANKS[2] for line in lines if line.endswith(b",,UNKNOWN")
+                        and tuple(line.split(b",")[:2]) in by_transfer(held))
 
     # ---- arguments
 
@@ -207,8 +211,13 @@ class Day:
         return [banks, banks[:8] if self.r.random() < 0.5 else self.bank()]
 
     def report_for(self):
-        banks, (bank, *more) = self.banks(), self.report()
-        return [banks, banks[:8] if self.r.random() < 0.5 else bank, *more]
+        """Any report, or one of the first of the banks on a list of the transfers that there may be."""
+        banks, (bank, day, rows) = self.banks(), self.report()
+        if self.r.random() < 0.4:
+            return [banks, bank, day, rows]
+        listed = [[self.pool.banks[0], tx, "1.00", "PENDING"] for tx in self.pool.transfers]
+        rows = "".join(",".join(row) + "\n" for row in [model.HEADER, *listed])
+        return [banks, banks.partition(b",")[0], DAYS[0].encode(), rows.encode()]
 
     def transfer_text(self):
         name = self.r.choice([*self.pool.transfers, "T99"]) if self.r.random() < 0.9 else self.r.choice(WRONG_NAMES)
