@@ -92,6 +92,6 @@ OF_NUMBERS: Dict[int, Type[NiluppangError]] = {
 
 def error_of(call: str, number: int, place: int, reason: str) -> NiluppangError:
     """The error by which a call is refused."""
-    is_of_delta = call == "accept" and number in OF_DELTAS
-    kind = DeltaRefused if is_of_delta else OF_NUMBERS.get(number, NiluppangError)
-    return kind(number, place, reason)
+    if call == "accept" and number in OF_DELTAS:
+        return DeltaRefused(number, place, reason)
+    return OF_NUMBERS.get(number, NiluppangError)(number, place, reason)
