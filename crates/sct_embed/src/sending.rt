@@ -46,12 +46,7 @@ impl EmbeddedSite {
     }
 
     /// The same for the banks that a text lists, such as `BANKDEFF,BANQFRPP`. Error too: `BadArgument` (73) with 1 if it lists none.
-    pub fn take_for(
-        &mut self,
-        alloc: Global,
-        banks: &[u8],
-        json: &[u8],
-    ) -> Result<Took, EmbedFault>
+    pub fn take_for(&mut self, alloc: Global, banks: &[u8], json: &[u8]) -> Result<Took, EmbedFault>
         ensures taken { IfOk result (λ took. IsTakenFor self.old.core (banks_in banks.now) json.now took self.new.core) }
         ensures answer { self.new.answer ≡ self.old.answer }
         ensures watched { self.new.watched ≡ self.old.watched }

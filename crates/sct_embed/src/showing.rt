@@ -91,7 +91,8 @@ impl Showing {
         Ok(())
     }
 
-    /// Has all arrivals filed by transfer, as it is known who may send a message. O(transactions of the messages that are new).
+    /// Has all arrivals filed by transfer, as it has to be known who may send a message. O(transactions of the messages that are new).
+    #[tactic(auto, using(crate::proofs::ShelfLemmas::filed_of_all))]
     pub(crate) fn file_all(&mut self, alloc: Global, arrivals: &[Entry]) -> Result<(), AllocError>
         requires { IsShowing self.old arrivals.now }
         ensures shown { IsShowing self.new arrivals.now }
@@ -103,6 +104,7 @@ impl Showing {
 
     /// Has the view show all arrivals, and all of them filed, as questions of banks need it. O(messages that are new, and those of
     /// the transfers that they touch).
+    #[tactic(auto, using(crate::proofs::ShelfLemmas::filed_of_all, crate::proofs::ShelfLemmas::filed_for_all))]
     pub(crate) fn show_for_banks(
         &mut self,
         alloc: Global,

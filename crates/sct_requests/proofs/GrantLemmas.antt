@@ -70,14 +70,14 @@ plain_given core line plain =
     rw (each.0, each.1, each.2) refl
 
 module _ (core : Core) (request : List ℕ) (as_line : is_as_line request ≡ true) (some : brings core (granted core request) ≡ true) where
-  abbrev line : List ℕ
-  line = line_sent request
+  abbrev its_line : List ℕ
+  its_line = line_sent request
 
   not_empty : granted core request ≡ [] → ⊥
   not_empty e = nothing_brought core (granted core request) (ap (core_given core) e ∙ nothing_given core) some
 
-  by_permission : (banks : List (List ℕ)) (message : Draft) → banks_in (banks_text request) ≡ Some banks → message_in line ≡ Ok message
-      → granted core request ≡ line → is_plain line ≡ true → (p : Permission) → verdict banks (messages_of core.arrivals) message ≡ p → is_allowed p ≡ true
+  by_permission : (banks : List (List ℕ)) (message : Draft) → banks_in (banks_text request) ≡ Some banks → message_in its_line ≡ Ok message
+      → granted core request ≡ its_line → is_plain its_line ≡ true → (p : Permission) → verdict banks (messages_of core.arrivals) message ≡ p → is_allowed p ≡ true
       → IsInTheirName core request
   by_permission banks message listed read given plain permission.Allowed may allowed = record {
     banks = banks;
@@ -86,23 +86,23 @@ module _ (core : Core) (request : List ℕ) (as_line : is_as_line request ≡ tr
     read = read;
     allowed = may;
     given = given;
-    taken = ap (core_given core) given ∙ plain_given core line plain ∙ ap (core_with_message core) read;
+    taken = ap (core_given core) given ∙ plain_given core its_line plain ∙ ap (core_with_message core) read;
   }
   by_permission banks message listed read given plain other may allowed = absurd (false≢true allowed)
 
-  by_reading : (banks : List (List ℕ)) → banks_in (banks_text request) ≡ Some banks → granted core request ≡ line → is_plain line ≡ true
-      → (read : Result Draft JsonFault) → message_in line ≡ read → is_permitted banks (messages_of core.arrivals) read ≡ true → IsInTheirName core request
+  by_reading : (banks : List (List ℕ)) → banks_in (banks_text request) ≡ Some banks → granted core request ≡ its_line → is_plain its_line ≡ true
+      → (read : Result Draft JsonFault) → message_in its_line ≡ read → is_permitted banks (messages_of core.arrivals) read ≡ true → IsInTheirName core request
   by_reading banks listed given plain (Ok message) read may =
       by_permission banks message listed read given plain (verdict banks (messages_of core.arrivals) message) refl may
   by_reading banks listed given plain (Err fault) read may = absurd (false≢true may)
 
   by_banks : (banks : Option (List (List ℕ))) → banks_in (banks_text request) ≡ banks → IsInTheirName core request
-  by_banks None e = absurd (not_empty (granted_as core request as_line ∙ ap (λ (b : Option (List (List ℕ))). granted_to core b line) e))
+  by_banks None e = absurd (not_empty (granted_as core request as_line ∙ ap (λ (b : Option (List (List ℕ))). granted_to core b its_line) e))
   by_banks (Some banks) e =
-      let is = granted_as core request as_line ∙ ap (λ (b : Option (List (List ℕ))). granted_to core b line) e in
-      elim (is_plain line && is_permitted banks (messages_of core.arrivals) (message_in line))
-      as (λ b. (is_plain line && is_permitted banks (messages_of core.arrivals) (message_in line)) ≡ b → granted core request ≡ cond b line [] → IsInTheirName core request) [
-        | true ↦ λ may given. by_reading banks e given (and_parts _ _ may).0 (message_in line) refl (and_parts _ _ may).1
+      let is = granted_as core request as_line ∙ ap (λ (b : Option (List (List ℕ))). granted_to core b its_line) e in
+      elim (is_plain its_line && is_permitted banks (messages_of core.arrivals) (message_in its_line))
+      as (λ b. (is_plain its_line && is_permitted banks (messages_of core.arrivals) (message_in its_line)) ≡ b → granted core request ≡ cond b its_line [] → IsInTheirName core request) [
+        | true ↦ λ may given. by_reading banks e given (and_parts _ _ may).0 (message_in its_line) refl (and_parts _ _ may).1
         | false ↦ λ may given. absurd (not_empty given)
       ] refl is
 
@@ -135,8 +135,8 @@ each_sent : (requests : List (List ℕ)) (core : Core) (line : List ℕ) → IsA
 each_sent [] core line among = absurd among
 each_sent (request ∷ requests) core line among =
     (elim (brings core (granted core request)) as (λ b. brings core (granted core request) ≡ b
-        → IsAmong (cond b (granted core request ∷ brought_by (core_requested core request) requests) (brought_by (core_requested core request) requests)) line
-        → WasSent core (request ∷ requests) line) [
+    → IsAmong (cond b (granted core request ∷ brought_by (core_requested core request) requests) (brought_by (core_requested core request) requests)) line
+    → WasSent core (request ∷ requests) line) [
       | true ↦ λ some there. elim there [
         | inl is ↦ sent_now core request requests line some is
         | inr later ↦ sent_later core request requests line (each_sent requests (core_requested core request) line later)
@@ -300,7 +300,7 @@ module _ (core : Core) (request : List ℕ) (as_line : is_as_line request ≡ tr
   sent = line_sent request
 
   untaken : (reply : Reply) → granted core request ≡ [] → answer_for core request ≡ reply → IsUntaken reply → IsAnsweredSo core request
-  untaken reply none is no = inr (none, subst IsUntaken (sym is) no)
+  untaken reply none is said = inr (none, subst IsUntaken (sym is) said)
 
   module _ (banks : List (List ℕ)) (listed : banks_in (banks_text request) ≡ Some banks) where
     granted_some : granted core request ≡ granted_to core (Some banks) sent
@@ -324,17 +324,17 @@ module _ (core : Core) (request : List ℕ) (as_line : is_as_line request ≡ tr
 
       how_withheld : (m : Draft) (p : Permission) → message_in sent ≡ Ok m → verdict banks (messages_of core.arrivals) m ≡ p → is_allowed p ≡ false
           → answer_by_verdict p (took_by core m) ≡ answer.Withheld p → IsAnsweredSo core request
-      how_withheld m p read judged no told =
+      how_withheld m p read judged kept told =
           untaken (answer.Withheld p)
-          (not_permitted (ap (is_permitted banks (messages_of core.arrivals)) read ∙ ap is_allowed judged ∙ no))
+          (not_permitted (ap (is_permitted banks (messages_of core.arrivals)) read ∙ ap is_allowed judged ∙ kept))
           (answered_plainly ∙ ap (answer_to_sender core banks) read ∙ ap (λ (q : Permission). answer_by_verdict q (took_by core m)) judged ∙ told) tt
 
       how_judged : (m : Draft) → message_in sent ≡ Ok m → (p : Permission) → verdict banks (messages_of core.arrivals) m ≡ p → IsAnsweredSo core request
       how_judged m read permission.Allowed judged =
           inl (
-            sym (answered_allowed core banks sent m (took_by core m) read judged ∙ sym answered_plainly)
-            ∙ sym (plain_answered core sent plain ∙ ap (answer_to_message core) read)
-            ∙ ap (answer_to core) (sym (granted_some ∙ by_permit core banks sent plain true (ap (is_permitted banks (messages_of core.arrivals)) read ∙ ap is_allowed judged)))
+          sym (answered_allowed core banks sent m (took_by core m) read judged refl ∙ sym answered_plainly)
+          ∙ sym (plain_answered core sent plain ∙ ap (answer_to_message core) read)
+          ∙ ap (answer_to core) (sym (granted_some ∙ by_permit core banks sent plain true (ap (is_permitted banks (messages_of core.arrivals)) read ∙ ap is_allowed judged)))
           )
       how_judged m read permission.NotSender judged = how_withheld m permission.NotSender read judged refl refl
       how_judged m read (permission.NotOriginator place) judged = how_withheld m (permission.NotOriginator place) read judged refl refl
@@ -367,18 +367,18 @@ answered_so core request =
     ] refl
 
 untaken_took : (reply : Reply) (took : Took) → reply ≡ answer.Took took → IsUntaken reply → ⊥
-untaken_took reply took is no = subst IsUntaken is no
+untaken_took reply took is said = subst IsUntaken is said
 
 took_so : (core : Core) (request : List ℕ) (took : Took) → answer_for core request ≡ answer.Took took → answer_to core (granted core request) ≡ answer.Took took
 took_so core request took told = elim (answered_so core request) [
   | inl same ↦ sym same ∙ told
-  | inr no ↦ absurd (untaken_took (answer_for core request) took told no.1)
+  | inr left ↦ absurd (untaken_took (answer_for core request) took told left.1)
 ]
 
 pub given_in_order : RequestsAreGivenInOrder
 given_in_order = record {
   plain = granted_plain;
-  answer = answered_plain;
+  alike = answered_plain;
   took = took_so;
   given = λ core first later. grants_join first later core;
   answers = λ core first later. answers_join first later core;

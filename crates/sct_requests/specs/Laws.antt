@@ -60,7 +60,7 @@ NothingLeaksToBanks =
 -- the answers. What the journal keeps are lines, which make the site that the requests made.
 pub record RequestsAreGivenInOrder : Type 0 where
   pub plain : (core : Core) (request : List ℕ) → is_as_line request ≡ false → granted core request ≡ request
-  pub answer : (core : Core) (request : List ℕ) → is_as_line request ≡ false → answer_for core request ≡ answer_to core request
+  pub alike : (core : Core) (request : List ℕ) → is_as_line request ≡ false → answer_for core request ≡ answer_to core request
   pub took : (core : Core) (request : List ℕ) (took : Took) → answer_for core request ≡ answer.Took took
       → answer_to core (granted core request) ≡ answer.Took took
   pub given : (core : Core) (first later : List (List ℕ))

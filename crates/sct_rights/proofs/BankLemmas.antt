@@ -20,7 +20,6 @@ use Rattle.sct_message.specs.declared.keys.TransferKey.{TransferKey}
 use Rattle.sct_message.proofs.SameValues.{transfer_is}
 use Rattle.sct_case.proofs.Membership.{any_tie, filtered_in, in_filter}
 use Rattle.sct_set.specs.Buckets.{bucket}
-use Rattle.sct_set.specs.Contents.{contents_of}
 use Rattle.sct_set.proofs.ContentsLemmas.{any_items}
 use Rattle.sct_view.specs.Answers.{is_beneficiary, is_originator, transfers_of_bank}
 use Rattle.sct_view.proofs.TouchedLemmas.{found_held}

@@ -1,12 +1,10 @@
 -- The report for banks has the transfers and the rows of the hub's own report. Proof plumbing.
 use Rattle.std.specs.FinSet as set
 use Rattle.std.specs.FinSet.{members}
-use Rattle.std.specs.Prelude.{Contains, if◌then◌else◌}
-use Rattle.std.proofs.Common.{◌≡◌, ◌∙◌, refl, sym, ap, inl, inr, ℕ, Bool, true, false, ◌||◌, List, [], ◌∷◌, ◌++◌, map, filter, Option, None, arith}
+use Rattle.std.specs.Prelude.{Contains}
+use Rattle.std.proofs.Common.{◌≡◌, ◌∙◌, refl, sym, ap, ℕ, Bool, true, false, ◌||◌, List, [], ◌∷◌, ◌++◌, map, filter, Option, None, arith}
 use Rattle.std.specs.List.Sorted.{IsStrictlySortedBy}
 use Rattle.std.proofs.lemmas.Bool.{and_from, false≢true}
-use Rattle.std.proofs.lemmas.Bool.Decides.{nat_tests}
-use Rattle.std.proofs.lemmas.List.Elements.{Contains-append_cases}
 use Rattle.std.proofs.lemmas.List.Kept.{IsStrictlySortedBy-filter}
 use Rattle.sct_message.specs.Keys.{transfers_of}
 use Rattle.sct_message.specs.Order.{message_order, transfer_order}
@@ -17,8 +15,7 @@ use Rattle.sct_message.specs.Transfers.{instruction_of, is_on, keys_of}
 use Rattle.sct_message.specs.declared.draft.Draft.{Draft}
 use Rattle.sct_message.specs.declared.keys.TransferKey.{TransferKey}
 use Rattle.sct_message.proofs.AscendingLemmas.{ascending_rises, ascending-sorted}
-use Rattle.sct_case.proofs.Membership.{any_tie, filtered_in, first_or_later, here, in_ascending, in_filter, later, nothing}
-use Rattle.sct_case.specs.declared.words.StatusWord.{StatusWord}
+use Rattle.sct_case.proofs.Membership.{any_tie, filtered_in, here, in_filter, later, nothing}
 use Rattle.sct_case.specs.declared.words.StatusWord.TheVariants as word
 use Rattle.sct_view.specs.Answers.{is_beneficiary, is_originator, transfers_of_bank}
 use Rattle.sct_view.proofs.SetKeys.{on_is}
@@ -26,8 +23,6 @@ use Rattle.sct_reconcile.specs.Reports.{is_of_day, keys_reported, listed_on, row
 use Rattle.sct_reconcile.specs.declared.rows.ListRow.{ListRow}
 use Rattle.sct_reconcile.specs.declared.rows.ListedRow.{ListedRow}
 use Rattle.sct_reconcile.specs.declared.rows.ReportRow.{ReportRow}
-use Rattle.sct_message.specs.Order.{same_transfer}
-use Rattle.sct_message.proofs.SameValues.{transfer_itself}
 use Rattle.sct_rights.specs.Rights.{is_one_of, is_theirs}
 use Rattle.sct_rights.specs.Shown.{visible}
 use Rattle.sct_rights.specs.Reported.{report_for, row_for}

@@ -92,12 +92,7 @@ fn is_instructed(held: &Archive, filed: &ByTransfer, transfer: &TransferKey) -> 
 }
 
 // Whether there is an instruction on the transfer to one of the banks.
-fn is_credited(
-    held: &Archive,
-    filed: &ByTransfer,
-    banks: &[Bic],
-    transfer: &TransferKey,
-) -> bool
+fn is_credited(held: &Archive, filed: &ByTransfer, banks: &[Bic], transfer: &TransferKey) -> bool
     requires { IsFiled held.now filed.now }
     ensures { result ≡ has_credit_to banks.now held.now transfer.now }
 {
@@ -132,12 +127,7 @@ fn as_beneficiary(
 /// Whether a message may be sent in the name of banks, to a site that holds the messages of the archive. An instruction that is
 /// contradicted counts. O(banks), times the transactions of a camt.056, or the messages on the transfer of an answer.
 #[tactic(auto, unfolding(crate::specs::Rights::verdict))]
-pub fn verdict(
-    held: &Archive,
-    filed: &ByTransfer,
-    banks: &[Bic],
-    message: &Message,
-) -> Permission
+pub fn verdict(held: &Archive, filed: &ByTransfer, banks: &[Bic], message: &Message) -> Permission
     requires { IsFiled held.now filed.now }
     ensures { result ≡ verdict banks.now held.now message.now }
 {

@@ -1,6 +1,6 @@
 //! The report for banks.
 ghost use Rattle.std.specs.FinSet as set;
-ghost use Rattle.std.specs.Prelude.{◌≡◌, ◌++◌, List as Rows, Some, map, filter, true, IfOk, OnOk};
+ghost use Rattle.std.specs.Prelude.{◌≡◌, ◌++◌, List as Rows, Some, map, filter, true, IfErr, IfOk, OnOk};
 ghost use Rattle.sct_element.specs.Text.{is_text};
 ghost use Rattle.sct_message.specs.Transfers.{instruction_of};
 ghost use Rattle.sct_set.specs.Buckets.{bucket};
@@ -8,6 +8,7 @@ ghost use Rattle.sct_view.specs.Answers.{is_beneficiary};
 ghost use Rattle.sct_view.specs.Filed.{IsFiled};
 ghost use Rattle.sct_reconcile.specs.Filed.{IsFiled as IsListed};
 ghost use Rattle.sct_reconcile.specs.Reports.{is_of_day, keys_reported, listed_on};
+ghost use Rattle.sct_reconcile.specs.declared.fault.ReconcileFault.TheVariants as fault;
 ghost use Rattle.sct_reconcile.specs.declared.rows.ListedRow.{ListedRow as Row};
 ghost use Rattle.sct_rights.specs.ByBanks.{IsFiledForBanks, is_reported};
 ghost use Rattle.sct_rights.specs.Reported.{report_for, row_for};
@@ -226,7 +227,8 @@ pub fn report_rows_for(
     requires filed { IsFiled view.now filed.now }
     requires by_bank { IsFiledForBanks view.now by_bank.now }
     requires bank { is_among banks.now bank.now ≡ true }
-    ensures { IfOk result (λ rows. rows.items ≡ report_for banks.now view.now bank.now day.now list.now) }
+    ensures rows { IfOk result (λ rows. rows.items ≡ report_for banks.now view.now bank.now day.now list.now) }
+    ensures fault { IfErr result (λ e. e ≡ fault.Memory) }
 {
     let keys = keys_reported(alloc, view, by_bank, bank, day, list.rows())?;
     let rows = rows_for(alloc, view, filed, banks, list.rows(), &keys)?;

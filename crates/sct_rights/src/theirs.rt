@@ -43,12 +43,7 @@ fn has_instruction(view: &View, filed: &ByTransfer, transfer: &TransferKey) -> b
 }
 
 // Whether there is an instruction on the transfer to one of the banks. O(messages on the transfer).
-fn has_credit_to(
-    view: &View,
-    filed: &ByTransfer,
-    banks: &[Bic],
-    transfer: &TransferKey,
-) -> bool
+fn has_credit_to(view: &View, filed: &ByTransfer, banks: &[Bic], transfer: &TransferKey) -> bool
     requires { IsFiled view.now filed.now }
     ensures { result ≡ has_credit_to banks.now view.now transfer.now }
 {

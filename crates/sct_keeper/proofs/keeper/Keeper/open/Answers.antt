@@ -1,7 +1,7 @@
 -- The journal of the site, and the site of its lines.
-use Rattle.std.proofs.Common.{◌≡◌, ◌∙◌, ◌∷◌, List, ℕ, IsTrue, ap, sym, drop}
+use Rattle.std.proofs.Common.{◌≡◌, ◌∙◌, ◌∷◌, List, ℕ, IsTrue, ap, subst, sym, drop}
 use Rattle.sct_site.specs.Cores.{Core}
-use Rattle.sct_journal.specs.Fronts.{front_in}
+use Rattle.sct_journal.specs.Fronts.{IsLeft, front_in}
 use Rattle.sct_journal.specs.Kept.{kept, recorded}
 use Rattle.sct_requests.specs.Steps.{core_after, core_kept}
 use Rattle.sct_keeper.specs.Keepers.{header}
@@ -38,3 +38,8 @@ returns-clause-no_journal g c told clean =
 pub returns-clause-other_site : goal.returns-clause-other_site
 returns-clause-other_site g c told clean =
     ap (λ (l : List ℕ). front_in l (g.D.Disk.seen c.args.disk)) (sym (c.as_bytes.ensures.value ∙ c.in-Ok.ensures.header)) ∙ c.in-Err-open_journal.ensures.other_site told clean
+
+pub returns-clause-crash_err : goal.returns-clause-crash_err
+returns-clause-crash_err g c clean f left =
+    subst (λ (first : List ℕ). IsLeft first (g.D.Disk.seen c.args.disk) f)
+    (c.as_bytes.ensures.value ∙ c.in-Ok.ensures.header) (c.in-Err-open_journal.ensures.crash_err clean f left)
