@@ -55,6 +55,11 @@
  *     71 Full              the handle has a site already
  *     72 BadVector         the text is not a version vector
  *     73 BadArgument       a bank, an identification, a day, an origin, a count or a size is not valid: the place is that of the argument, from 1
+ *     79 NotYours          the bank is none of the banks that ask
+ *     80 NotSender         the sender of the message is none of the banks in whose name it is sent
+ *     81 NotOriginator     the originator bank of the transaction at the place is none of the banks
+ *     82 NotBeneficiary    the beneficiary bank of each instruction on the transfer is none of the banks
+ *     83 Waits             no instruction on the transfer is held yet; the call can be made again when there is one
  *
  * `place` counts from 1. It is 0 with every other number. docs/users/codes.md has a remedy for each.
  *
@@ -110,7 +115,12 @@ typedef enum sct_code {
     SCT_EMPTY = 70,
     SCT_FULL = 71,
     SCT_BAD_VECTOR = 72,
-    SCT_BAD_ARGUMENT = 73
+    SCT_BAD_ARGUMENT = 73,
+    SCT_NOT_YOURS = 79,
+    SCT_NOT_SENDER = 80,
+    SCT_NOT_ORIGINATOR = 81,
+    SCT_NOT_BENEFICIARY = 82,
+    SCT_WAITS = 83
 } sct_code;
 
 /* A handle: 16 bytes that the caller keeps anywhere, and whose address it passes. What is in it is the library's. */
@@ -211,6 +221,21 @@ SCT_CALL void sct_site_close(sct_site *site);
  * no repeat, write it to the journal, on one line, before you acknowledge it to anyone, and before the next cut.
  * Refusals: 31 to 38, 46, 56, 65, 70. */
 SCT_CALL SCT_READ sct_taken sct_site_take(sct_site *site, const uint8_t *json, size_t length);
+
+/* As sct_site_take, if the message may be sent in the name of some banks. `banks` is a text such as `BANKDEFF,BANQFRPP`: 1 to 16 BICs of
+ * 8 or 11 characters, with commas between them. They are the banks for which a client stands. Who stands for which is up to the caller. A
+ * message that may not be sent is refused by the first of these that holds:
+ *
+ *     80    its sender, InstgAgt, is none of the banks
+ *     81    it is a pacs.008, camt.056 or pacs.028, and DbtrAgt of some transaction is none of them. The place is that of the first such one
+ *     83    it is a pacs.002, pacs.004 or camt.029, and the site holds no instruction on its transfer, which sct_site_why names
+ *     82    it is one of these three, and CdtrAgt of no instruction on its transfer is one of the banks
+ *
+ * An instruction is a pacs.008. It counts also if it is contradicted. A message that is refused by 83 can be sent again when the instruction
+ * is held. So 82 and 83 show whether one is. The cost is that of a take, and of a pacs.002, pacs.004 or camt.029 also that of the messages
+ * on its transfer. What is new is filed by its transfers.
+ * Refusals: 31 to 38, 46, 56, 65, 70, 73 (1: the banks), 80 to 83. */
+SCT_CALL SCT_READ sct_taken sct_site_take_as(sct_site *site, const uint8_t *banks, size_t banks_length, const uint8_t *json, size_t length);
 
 /* Takes the messages of a text, one JSON object on each line. Blank lines are passed over. The answer has a line for each refused
  * line, such as `line 8: 36 InstgAgt 1`; `ok` is true all the same. It does not say which lines are repeats. The new ones are the last
@@ -341,6 +366,43 @@ SCT_CALL SCT_READ sct_outcome sct_site_messages_text(sct_site *site, const uint8
  * Refusals: 65, 70, 73 (1: the bank). */
 SCT_CALL SCT_READ sct_outcome sct_site_bank_totals(sct_site *site, const uint8_t *bank, size_t bank_length);
 
+/* ---- the same for banks: they see no transfer of others ----
+ *
+ * `banks` is a text as in sct_site_take_as. A transfer is theirs if its originator bank is one of them, or the beneficiary bank of an
+ * instruction on it. If the site holds no instruction on it, it is theirs if one of them sent a message on it, or was sent one (InstgAgt,
+ * InstdAgt). A message that is contradicted counts: two instructions on one transfer, to two banks, make it theirs for both.
+ *
+ * On a transfer that is theirs the answers are those of a site that holds the messages on transfers of theirs, and with each of them all
+ * messages of its identity: the same lines and the same row of a report as without banks. On every other transfer the answers are those of
+ * a site that holds nothing. So no answer depends on a message on transfers of others, on what a recall says of one, or on the message
+ * from which a contradicted one differs. The first wrong argument is refused by 73, then a bank of others by 79, and then a list by 48. */
+
+/* As sct_site_transfer_text, for banks. A transfer that is not theirs has the line `T|BANK|TX|UNKNOWN`.
+ * Refusals: 65, 70, 73 (1: the banks, 2: the bank, 3: the identification). */
+SCT_CALL SCT_READ sct_outcome sct_site_transfer_text_for(sct_site *site, const uint8_t *banks, size_t banks_length, const uint8_t *bank,
+                                                         size_t bank_length, const uint8_t *tx, size_t tx_length);
+
+/* As sct_site_messages_text, for banks. A transfer that is not theirs has no messages. A camt.056 is shown as it is to its sender; to others
+ * it has only those of its transactions that are on transfers of theirs, and no TxInf if this is one. Messages that are shown alike are one
+ * line.
+ * Refusals: 65, 70, 73 (1: the banks, 2: the bank, 3: the identification). */
+SCT_CALL SCT_READ sct_outcome sct_site_messages_text_for(sct_site *site, const uint8_t *banks, size_t banks_length, const uint8_t *bank,
+                                                         size_t bank_length, const uint8_t *tx, size_t tx_length);
+
+/* As sct_site_bank_totals, for banks, of which the bank is one.
+ * Refusals: 65, 70, 73 (1: the banks, 2: the bank), 79. */
+SCT_CALL SCT_READ sct_outcome sct_site_bank_totals_for(sct_site *site, const uint8_t *banks, size_t banks_length, const uint8_t *bank,
+                                                       size_t bank_length);
+
+/* As sct_site_report, for banks, of which the bank is one. A row of the list on a transfer that is not theirs is as a row on a transfer
+ * without messages: ONLY_IN_LIST and UNKNOWN, or LISTED_TWICE. The cost is that of the list and of the messages on transfers of the bank.
+ * Refusals: 48, 65, 70, 73 (1: the banks, 2: the bank, 3: the day), 79. */
+SCT_CALL SCT_READ sct_outcome sct_site_report_for(sct_site *site, const uint8_t *banks, size_t banks_length, const uint8_t *bank,
+                                                  size_t bank_length, const uint8_t *day, size_t day_length, const uint8_t *list,
+                                                  size_t list_length);
+
+/* ---- what changed ---- */
+
 /* The answer becomes a line `BANK|TX` for each transfer whose lines may have changed since the call before, ascending. BANK has 11
  * characters, and TX no `|`. Every other transfer has the lines that it had then. The first call begins the watch, and its answer
  * is empty. From then on, the site keeps the names of changed transfers until the next call.
@@ -374,8 +436,9 @@ SCT_CALL SCT_READ sct_outcome sct_site_answer_end(sct_site *site);
  *     36 KEY NUMBER, 38 NUMBER   by what is wrong with its text, and by the rule that is broken (docs/users/codes.md)
  *     41 SITE HAVE FIRST         by the origin, how many of its messages are held, and the first number of the delta
  *     42 SITE NUMBER, 43 NUMBER  by the number under which two messages differ, and by the one that the journal lost
- *     45, 46, 48, 73             by the place
+ *     45, 46, 48, 73, 81         by the place
  *     56 PLACE                   by the place of the transaction, and by its fault
+ *     83 BANK TX                 by the transfer: its originator bank, of 11 characters, and its identification, which is the rest
  *
  * Refusals: 65, 70. */
 SCT_CALL SCT_READ sct_outcome sct_site_why(sct_site *site, uint8_t *out, size_t room);
@@ -392,6 +455,7 @@ sct_outcome sct_raw_restore(sct_site *site, uint16_t number, uint16_t group, con
                             const uint8_t *delta, size_t delta_length);
 void sct_raw_close(sct_site *site);
 sct_taken sct_raw_take(sct_site *site, const uint8_t *json, size_t length);
+sct_taken sct_raw_take_as(sct_site *site, const uint8_t *banks, size_t banks_length, const uint8_t *json, size_t length);
 sct_lines sct_raw_take_lines(sct_site *site, const uint8_t *text, size_t length);
 sct_accepted sct_raw_accept(sct_site *site, const uint8_t *text, size_t length);
 sct_outcome sct_raw_counts(sct_site *site, uint64_t *counts, size_t items);
@@ -416,6 +480,13 @@ sct_outcome sct_raw_closed_text(sct_site *site, const uint8_t *day, size_t day_l
 sct_outcome sct_raw_transfer_text(sct_site *site, const uint8_t *bank, size_t bank_length, const uint8_t *tx, size_t tx_length);
 sct_outcome sct_raw_messages_text(sct_site *site, const uint8_t *bank, size_t bank_length, const uint8_t *tx, size_t tx_length);
 sct_outcome sct_raw_bank_totals(sct_site *site, const uint8_t *bank, size_t bank_length);
+sct_outcome sct_raw_transfer_text_for(sct_site *site, const uint8_t *banks, size_t banks_length, const uint8_t *bank, size_t bank_length,
+                                      const uint8_t *tx, size_t tx_length);
+sct_outcome sct_raw_messages_text_for(sct_site *site, const uint8_t *banks, size_t banks_length, const uint8_t *bank, size_t bank_length,
+                                      const uint8_t *tx, size_t tx_length);
+sct_outcome sct_raw_bank_totals_for(sct_site *site, const uint8_t *banks, size_t banks_length, const uint8_t *bank, size_t bank_length);
+sct_outcome sct_raw_report_for(sct_site *site, const uint8_t *banks, size_t banks_length, const uint8_t *bank, size_t bank_length,
+                               const uint8_t *day, size_t day_length, const uint8_t *list, size_t list_length);
 sct_outcome sct_raw_changes(sct_site *site);
 sct_outcome sct_raw_answer(sct_site *site, uint8_t *out, size_t room);
 sct_outcome sct_raw_answer_part(sct_site *site, size_t from, uint8_t *out, size_t room);
@@ -452,6 +523,11 @@ static inline void sct_site_close(sct_site *site) {
 
 static inline sct_taken sct_site_take(sct_site *site, const uint8_t *json, size_t length) {
     return sct_raw_take(site, (const uint8_t *)sct_private_at(json, length), length);
+}
+
+static inline sct_taken sct_site_take_as(sct_site *site, const uint8_t *banks, size_t banks_length, const uint8_t *json, size_t length) {
+    return sct_raw_take_as(site, (const uint8_t *)sct_private_at(banks, banks_length), banks_length,
+                           (const uint8_t *)sct_private_at(json, length), length);
 }
 
 static inline sct_lines sct_site_take_lines(sct_site *site, const uint8_t *text, size_t length) {
@@ -553,6 +629,35 @@ static inline sct_outcome sct_site_bank_totals(sct_site *site, const uint8_t *ba
     return sct_raw_bank_totals(site, (const uint8_t *)sct_private_at(bank, bank_length), bank_length);
 }
 
+static inline sct_outcome sct_site_transfer_text_for(sct_site *site, const uint8_t *banks, size_t banks_length, const uint8_t *bank,
+                                                     size_t bank_length, const uint8_t *tx, size_t tx_length) {
+    return sct_raw_transfer_text_for(site, (const uint8_t *)sct_private_at(banks, banks_length), banks_length,
+                                     (const uint8_t *)sct_private_at(bank, bank_length), bank_length,
+                                     (const uint8_t *)sct_private_at(tx, tx_length), tx_length);
+}
+
+static inline sct_outcome sct_site_messages_text_for(sct_site *site, const uint8_t *banks, size_t banks_length, const uint8_t *bank,
+                                                     size_t bank_length, const uint8_t *tx, size_t tx_length) {
+    return sct_raw_messages_text_for(site, (const uint8_t *)sct_private_at(banks, banks_length), banks_length,
+                                     (const uint8_t *)sct_private_at(bank, bank_length), bank_length,
+                                     (const uint8_t *)sct_private_at(tx, tx_length), tx_length);
+}
+
+static inline sct_outcome sct_site_bank_totals_for(sct_site *site, const uint8_t *banks, size_t banks_length, const uint8_t *bank,
+                                                   size_t bank_length) {
+    return sct_raw_bank_totals_for(site, (const uint8_t *)sct_private_at(banks, banks_length), banks_length,
+                                   (const uint8_t *)sct_private_at(bank, bank_length), bank_length);
+}
+
+static inline sct_outcome sct_site_report_for(sct_site *site, const uint8_t *banks, size_t banks_length, const uint8_t *bank,
+                                              size_t bank_length, const uint8_t *day, size_t day_length, const uint8_t *list,
+                                              size_t list_length) {
+    return sct_raw_report_for(site, (const uint8_t *)sct_private_at(banks, banks_length), banks_length,
+                              (const uint8_t *)sct_private_at(bank, bank_length), bank_length,
+                              (const uint8_t *)sct_private_at(day, day_length), day_length,
+                              (const uint8_t *)sct_private_at(list, list_length), list_length);
+}
+
 static inline sct_outcome sct_site_changes(sct_site *site) {
     return sct_raw_changes(site);
 }
@@ -617,6 +722,9 @@ class site {
     }
     void close() { sct_site_close(&handle_); }
     SCT_READ sct_taken take(const std::string &json) { return sct_site_take(&handle_, at(json), json.size()); }
+    SCT_READ sct_taken take_as(const std::string &banks, const std::string &json) {
+        return sct_site_take_as(&handle_, at(banks), banks.size(), at(json), json.size());
+    }
     SCT_READ sct_lines take_lines(const std::string &text) { return sct_site_take_lines(&handle_, at(text), text.size()); }
     SCT_READ sct_accepted accept(const std::string &text) { return sct_site_accept(&handle_, at(text), text.size()); }
     SCT_READ sct_outcome counts(uint64_t *counts, size_t items) { return sct_site_counts(&handle_, counts, items); }
@@ -648,6 +756,18 @@ class site {
         return sct_site_messages_text(&handle_, at(bank), bank.size(), at(tx), tx.size());
     }
     SCT_READ sct_outcome bank_totals(const std::string &bank) { return sct_site_bank_totals(&handle_, at(bank), bank.size()); }
+    SCT_READ sct_outcome transfer_text_for(const std::string &banks, const std::string &bank, const std::string &tx) {
+        return sct_site_transfer_text_for(&handle_, at(banks), banks.size(), at(bank), bank.size(), at(tx), tx.size());
+    }
+    SCT_READ sct_outcome messages_text_for(const std::string &banks, const std::string &bank, const std::string &tx) {
+        return sct_site_messages_text_for(&handle_, at(banks), banks.size(), at(bank), bank.size(), at(tx), tx.size());
+    }
+    SCT_READ sct_outcome bank_totals_for(const std::string &banks, const std::string &bank) {
+        return sct_site_bank_totals_for(&handle_, at(banks), banks.size(), at(bank), bank.size());
+    }
+    SCT_READ sct_outcome report_for(const std::string &banks, const std::string &bank, const std::string &day, const std::string &list) {
+        return sct_site_report_for(&handle_, at(banks), banks.size(), at(bank), bank.size(), at(day), day.size(), at(list), list.size());
+    }
     SCT_READ sct_outcome changes() { return sct_site_changes(&handle_); }
     SCT_READ sct_outcome answer_part(size_t from, uint8_t *out, size_t room) {
         return sct_site_answer_part(&handle_, from, out, room);

@@ -142,6 +142,7 @@ CHECKS = {
     "embed": {
         "c_answers":
             "calls the library from C on the examples, for each refusal, at sites 1 to 1024 and in 256 KB of stack",
+        "c_banks": "has banks send messages and ask questions by the library, as worked examples have it",
         "c_growths": "refuses memory to each call of the library, at each of its times",
         "c_memory": "counts the memory that a site holds until it is closed, and after calls that bring nothing",
         "c_calls": "compares made-up calls from C with the definitions, under the address sanitizer and valgrind",

@@ -1,8 +1,8 @@
 """codes.py: docs/users/codes.md has the numbers and names of the code and lines of the examples, and a manual page can
 be made of it.
 
-The numbers and names in the tables are those of the functions `number` of the code, and so are the numbers that the
-page says are not assigned. Each word of a status text or of a report has the remedy that services/hub/meanings.json
+The numbers and names in the tables are those of the functions of the code that number a fault or a permission, and so
+are the numbers that the page says are not assigned. Each word of a status text or of a report has the remedy that services/hub/meanings.json
 has, which the pages show. The numbers that the service explains have the names and the sentences of the C header, or of
 the page, and its remedies. Each line that a table shows in its column Line or Example is a line of some file of
 examples/ or of tests/data/, or is `fault N` and N ends a run by the code. Each line with a bank that the page shows
@@ -18,7 +18,10 @@ from tools import man_page
 from tools.desk.page_tables import plain, tables
 
 SHOWN = ["Line", "Example"]
-MOST = 78  # the greatest number
+MOST = 83  # the greatest number
+# a function that numbers something, and a case of it
+NUMBERING = re.compile(r"^( *)(?:pub )?fn (?:\w+_)?number\(.*?\n\1\}\n", re.DOTALL | re.M)
+NUMBERED = re.compile(r"(\w+Fault|Permission)::(\w+)(?:\([^)]*\)|\s*\{[^}]*\})? => ([1-9]\d*),")
 # the sections on words, each with the table of meanings.json that has them, and the colors of that table
 WORDS = {"Statuses of a transfer": "transfers", "Findings": "findings", "Statuses of a recall": "recalls",
          "Results of a report": "report"}
@@ -29,11 +32,12 @@ SIGNS = re.compile(r"\\(?:[-e&]|f[BIR]|\((?:aq|ga|ti|ha|bu))")
 
 
 def numbers_of_code():
-    """The pairs of numbers and names by the functions `number` of the code, and the numbers that end a run."""
+    """The pairs of numbers and names by the functions of the code that number something, and the numbers that end a
+    run."""
     pairs, ends = {("64", "NoEvent")}, set()
     for path in CRATES.glob("*/src/**/*.rt"):
-        for body in re.findall(r"\bfn number\(.*?\n    \}\n", path.read_text(encoding="utf-8"), re.DOTALL):
-            for fault, name, number in re.findall(r"(\w+Fault)::(\w+)(?:\([^)]*\)|\s*\{[^}]*\})? => (\d+),", body):
+        for body in NUMBERING.finditer(path.read_text(encoding="utf-8")):
+            for fault, name, number in NUMBERED.findall(body.group()):
                 pairs.add((number, name))
                 if fault == "ProgramFault":
                     ends.add(number)

@@ -276,10 +276,29 @@ def refused_calls():
                 (("messages_text", 0, b"BANK", b"T1"), 73, 1, "73 1"),
                 (("messages_text", 0, BANK, b"T//1"), 73, 2, "73 2"),
                 (("bank_totals", 0, b"X"), 73, 1, "73 1"), (("restore", 2, 0, 1, b"", EMPTY_DELTA), 44, 0, None)]
+    yield from refused_to_banks()
     for number, group in ((0, 1), (2, 1), (1, 0), (1025, 1025), (1, 1025), (65535, 65535)):
         yield ("open", 2, number, group), 44, 0, None
     for name, words in on_no_site():
         yield (name, 2, *words), 70, 0, None
+
+
+def refused_to_banks():
+    """The same for calls that are made in the name of banks. Handle 0 holds instructions of BANKDEFF to BANQFRPP."""
+    other = b"BANKITMM"
+    of_others = [samples.line(one).encode() for one in (samples.instruction(InstgAgt="BANKITMM"),
+                                                        samples.confirmation(InstgAgt="BANKITMM"))]
+    early = samples.line(samples.confirmation(OrgnlTxId="T9")).encode()
+    yield from [(("take_as", 0, other, instruction(3).encode()), 80, 0, "80"),
+                (("take_as", 0, other, of_others[0]), 81, 1, "81 1"),
+                (("take_as", 0, other, of_others[1]), 82, 0, "82"),
+                (("take_as", 0, b"BANQFRPP", early), 83, 0, "83 BANKDEFFXXX T9"),
+                (("take_as", 0, b"BANKDEFF,", b"{}"), 73, 1, "73 1"), (("take_as", 0, BANK, b"{}"), 33, 0, "33")]
+    yield from [(("transfer_text_for", 0, BANK, b"", b"T1"), 73, 2, "73 2"),
+                (("messages_text_for", 0, BANK, BANK, b"T//1"), 73, 3, "73 3"),
+                (("bank_totals_for", 0, other, BANK), 79, 0, "79"),
+                (("report_for", 0, other, BANK, DAY, b""), 79, 0, "79"),
+                (("report_for", 0, BANK, BANK, DAY, b""), 48, 1, "48 1")]
 
 
 def wanted_of(code, place, why):
@@ -324,6 +343,8 @@ def on_no_site():
         "entries": [1, 0, 1], "digest": [1, 0], "journal_text": [0], "newest_text": [1], "reading_text": [b"{}"],
         "report": [BANK, DAY, b""], "kept_text": [DAY],
         "closed_text": [DAY], "transfer_text": [BANK, b"T1"], "messages_text": [BANK, b"T1"], "bank_totals": [BANK],
+        "take_as": [BANK, b"{}"], "transfer_text_for": [BANK, BANK, b"T1"], "messages_text_for": [BANK, BANK, b"T1"],
+        "bank_totals_for": [BANK, BANK], "report_for": [BANK, BANK, DAY, b""],
         "answer": [0], "answer_part": [0, 1], "why": [10]}
     texts = ["vector_text", "digests_text", "archive_text", "status_text", "totals_text", "contradictions_text",
              "changes", "evaluate", "answer_end"]
@@ -347,7 +368,9 @@ def reasons(program):
             ("messages_text", 0, BANK, b"T1"), ("bank_totals", 0, BANK), ("entries", 0, 1, 0, 1),
             ("digest", 0, 1, 0), ("digests_text", 0),
             ("journal_text", 0, 0), ("newest_text", 0, 0), ("evaluate", 0), ("kept_text", 0, DAY),
-            ("closed_text", 0, DAY), ("reading_text", 0, b"{}"),
+            ("closed_text", 0, DAY), ("reading_text", 0, b"{}"), ("take_as", 0, BANK, instruction(1).encode()),
+            ("transfer_text_for", 0, BANK, BANK, b"T1"), ("messages_text_for", 0, BANK, BANK, b"T1"),
+            ("bank_totals_for", 0, BANK, BANK), ("report_for", 0, BANK, BANK, DAY, b"DbtrAgt,TxId,Amt,Sts\n"),
             *((name, 0) for name in ("vector_text", "archive_text", "status_text", "totals_text", "contradictions_text",
                                      "changes"))]
     well, refused = ({"ok": 1}, None), (("take", 0, wrong), ({"ok": 0}, None))
@@ -402,7 +425,11 @@ def nothing(program):
              ("kept_text",), ("closed_text",),
              ("transfer_text", b""), ("transfer_text", BANK), ("messages_text", b""),
              ("messages_text", BANK), ("report", b"", b""),
-             ("report", BANK, b""), ("report", BANK, DAY), ("report", b"", DAY)]
+             ("report", BANK, b""), ("report", BANK, DAY), ("report", b"", DAY), ("take_as", b""), ("take_as", BANK),
+             ("transfer_text_for", b"", b""), ("transfer_text_for", BANK, b""), ("transfer_text_for", BANK, BANK),
+             ("messages_text_for", b"", b""), ("messages_text_for", BANK, BANK), ("bank_totals_for", b""),
+             ("bank_totals_for", BANK), ("report_for", b"", b"", b""), ("report_for", BANK, BANK, b""),
+             ("report_for", BANK, BANK, DAY)]
     rooms = [("answer", 0), ("answer_part", 0, 0), ("answer_part", 9, 0), ("why", 0), ("counts", 0), ("cut_above", [])]
     requests = [("open", 0, 1, 2), ("take", 0, instruction(1).encode()), ("restore", 1, 2, 2, b"", b""),
                 ("restore", 2, 1, 2, instruction(1).encode(), b""), ("restore", 3, 1, 2, b"", delta(2, 1, 2)),
@@ -523,15 +550,20 @@ def names(folder):
 
 
 def asked_for(program, held):
-    """How often questions about one transfer ask for memory, after a take at a site that holds some messages."""
-    lines = "".join(messages.lines(held)).encode()
-    questions = [("transfer_text", 0, BANK, b"T1"), ("bank_totals", 0, BANK), ("changes", 0)]
+    """How often calls about one transfer or one bank ask for memory, after a take at a site that holds some
+    messages."""
+    lines, of_one = "".join(messages.lines(held)).encode(), [BANK, BANK, b"T1"]
+    questions = [("transfer_text", 0, BANK, b"T1"), ("bank_totals", 0, BANK), ("changes", 0),
+                 ("transfer_text_for", 0, *of_one), ("messages_text_for", 0, *of_one),
+                 ("bank_totals_for", 0, BANK, BANK), ("report_for", 0, BANK, BANK, DAY, b"DbtrAgt,TxId,Amt,Sts\n"),
+                 ("take_as", 0, BANK, instruction(99).encode()),
+                 ("take_as", 0, b"BANQFRPP", confirmation(1).encode())]
     taken = [(("take", 0, instruction(number).encode()), question) for number, question in enumerate(questions, 1)]
-    requests = [("open", 0, 1, 1), ("take_lines", 0, lines), ("changes", 0),
+    requests = [("open", 0, 1, 1), ("take_lines", 0, lines), ("changes", 0), ("transfer_text_for", 0, *of_one),
                 *(request for pair in taken for request in pair)]
     replies = driving.asked(program, requests)
     whole = replies[1].fields["ok"] == 1 and replies[1].fields["fresh"] == held
-    return whole, [reply.asked for reply in replies[4::2]]
+    return whole, [reply.asked for reply in replies[5::2]]
 
 
 def progress(program):
@@ -555,7 +587,7 @@ def progress(program):
 
 
 def costs(program):
-    """A question after a take evaluates what is new, and not what is held. A long text is taken whole."""
+    """A question after a take evaluates and files what is new, and not what is held. A long text is taken whole."""
     (few_whole, few), (many_whole, many) = (asked_for(program, held) for held in HELD)
     yield reported(f"all {HELD} messages of a text are taken", few_whole and many_whole)
     grown = all(after <= 2 * before + 9 for before, after in zip(few, many))

@@ -5,42 +5,55 @@ The default is the number of today and 20,000 calls. With --long there are 1,000
 
 A day is some hundred calls on the handles of a small group. Sites take and accept messages that confirm, recall and
 contradict each other, lines that are refused, deltas that are late, repeated, damaged and of another life of a site.
-They are asked all questions at any time, closed, opened anew and restored, and called on when they are closed. After
-each refusal they are asked why. In every second run a text or a room without bytes is a null pointer. The address
-sanitizer checks driver.c and what it gives the library, and finds memory that is lost. model.py has what each call must
-come to: no crate is in it. A tenth of a usual number of calls is made under valgrind too, which sees each access of the
-library itself. Each call has to be met, and each number but 65, both as it is and as a why.
+Messages come in the name of banks, too. Sites are asked all questions at any time, also for banks, closed, opened anew
+and restored, and called on when they are closed. After each refusal they are asked why. In every second run a text or a
+room without bytes is a null pointer. The address sanitizer checks driver.c and what it gives the library, and finds
+memory that is lost. model.py has what each call must come to: no crate is in it. A tenth of a usual number of calls is
+made under valgrind too, which sees each access of the library itself. Each call has to be met, and each number but 65,
+both as it is and as a why. So have answers for banks that hide a transfer, a part of a recall, and a row of a report.
 """
 import argparse
 import collections
 import concurrent.futures
 import os
 import random
+import re
 import shutil
+from bench.generate import samples
 from tests import harness
 from tests.embed import driving, model
-from tests.oracle import exchange, status
+from tests.oracle import exchange, rights, status
+from tests.oracle.status import RECALL, by_transfer, transfers
 from tests.property import cases
 from tests.property.hubs import NO_VECTORS
 from tests.property.messages import BANKS, Pool, shuffled
 from tests.property.worlds import refused_list, refused_text
 
 USUAL, LONG, OF_VALGRIND, DAYS_OF_A_RUN = 20_000, 1_000_000, 2_000, 10
-CALLS = {"take": 24, "take_lines": 6, "accept": 16, "changes": 6, "transfer_text": 6,
+CALLS = {"take": 20, "take_as": 14, "take_lines": 6, "accept": 16, "changes": 6, "transfer_text": 6,
          "messages_text": 4, "status_text": 5,
          "archive_text": 3, "totals_text": 4, "contradictions_text": 3, "bank_totals": 4, "report": 4,
          "kept_text": 4, "closed_text": 3,
          "counts": 3, "vector_text": 3, "cut": 4, "cut_above": 3, "entries": 5, "digest": 5, "digests_text": 4,
          "journal_text": 4, "newest_text": 4, "reading_text": 4, "evaluate": 4,
+         "transfer_text_for": 8, "messages_text_for": 8, "bank_totals_for": 5, "report_for": 5,
          "answer": 4, "answer_part": 6, "answer_end": 2, "why": 8, "code_name": 1, "code_text": 1, "close": 2,
          "open": 4, "restore": 4}
-NUMBERS = [31, 32, 33, 34, 35, 36, 37, 38, 41, 42, 43, 44, 45, 46, 48, 56, 70, 71, 72, 73]
+NUMBERS = [31, 32, 33, 34, 35, 36, 37, 38, 41, 42, 43, 44, 45, 46, 48, 56, 70, 71, 72, 73, 79, 80, 81, 82, 83]
 REASONS = [f"why {number}" for number in NUMBERS if number not in (70, 71)]
 DAYS = ["2024-05-02", "2024-05-02", "2024-05-03", "2024-5-2", ""]
 WRONG_BANKS, WRONG_NAMES = ["", "bankdeff", "BANKDEFFXX", "BANKDEFF\n", "\xff"], ["", "a_b", "/T1", "T1\n", "T" * 36]
+NO_BANKS = [b"", b"BANKDEFF,", b",BANKDEFF", b"BANKDEFF, BANQFRPP", b"BANKDEFF,bankdeff", b",".join([b"BANKDEFF"] * 17)]
 
-# a request, and the fields and the text that it must come to
-Call = collections.namedtuple("Call", "request fields text")
+# two transfers to two banks, and a recall of both
+RECALLED = [samples.line(one).strip().encode() for one in [
+    *(samples.instruction(MsgId=f"M-{tx}", TxId=tx, CdtrAgt=bank) for tx, bank in zip(("T6", "T7"), BANKS[1:])),
+    samples.recall([samples.transaction(OrgnlTxId=tx) for tx in ("T6", "T7")], MsgId="K-6")]]
+# what answers for banks meet
+FOR_BANKS = ["a transfer of others", "a recall in part", "a row of others"]
+
+# a request, the fields and the text that it must come to, and what its answer meets
+Call = collections.namedtuple("Call", "request fields text met")
 
 
 class Day:
@@ -69,9 +82,22 @@ class Day:
         """Makes a call: what it must come to is noted. After a refusal the handle is asked why."""
         found, text = self.handles[place].call(name, *arguments)
         fields = {field: found[field] for field in driving.FIELDS[name]}
-        self.calls.append(Call((name, place, *arguments), fields, text))
+        met = list(self.met_by(name, self.handles[place].site, text or b""))
+        self.calls.append(Call((name, place, *arguments), fields, text, met))
         if not found["ok"] and name != "why":
             self.call(place, "why", 1 << 12)
+
+    def met_by(self, name, site, text):
+        """What the answer of a call for banks meets."""
+        held, lines = site.messages if site else (), text.splitlines()
+        if name == "transfer_text_for":
+            yield from (FOR_BANKS[0] for line in lines if line.endswith(b"|UNKNOWN")
+                        and tuple(line.split(b"|")[1:3]) in by_transfer(held))
+        elif name == "messages_text_for" and not set(lines) <= set(status.archive_text(held).encode().splitlines()):
+            yield FOR_BANKS[1]
+        elif name == "report_for":
+            yield from (FOR_BANKS[2] for line in lines if line.endswith(b",,UNKNOWN")
+                        and tuple(line.split(b",")[:2]) in by_transfer(held))
 
     # ---- arguments
 
@@ -87,6 +113,7 @@ class Day:
 
     def take_lines(self):
         lines = [self.r.choice([self.line(), self.line(), b"", b" \t"]) for _ in range(self.r.randint(0, 8))]
+        lines += RECALLED if self.r.random() < 0.2 else []
         return [b"\n".join(lines) + self.r.choice([b"", b"\n", b"\r\n"])]
 
     def delta(self, place):
@@ -147,6 +174,50 @@ class Day:
     def bank(self):
         bank = self.r.choice(BANKS + ["NOBODYXX"]) if self.r.random() < 0.9 else self.r.choice(WRONG_BANKS)
         return (bank + self.r.choice(["", "XXX"])).encode("latin-1")
+
+    def banks(self):
+        """A text that lists 1 to 16 banks, each in either form, or one that lists none."""
+        if self.r.random() < 0.05:
+            return self.r.choice(NO_BANKS)
+        many = self.r.choice([1, 1, 1, 1, 2, 3, 16])
+        return b",".join((self.r.choice(BANKS + ["NOBODYXX"]) + self.r.choice(["", "XXX"])).encode()
+                         for _ in range(many))
+
+    def take_as(self):
+        """A message in the name of banks, most often in that of its sender alone."""
+        line = self.line()
+        sender = re.search(rb'"InstgAgt": "(\w+)"', line)
+        return [sender.group(1) if sender and self.r.random() < 0.6 else self.banks(), line]
+
+    def transfer_text_for(self):
+        """A transfer, most often of the bank that most transfers are of."""
+        bank, tx = self.transfer_text()
+        return [self.banks(), self.pool.banks[0].encode() if self.r.random() < 0.7 else bank, tx]
+
+    def messages_text_for(self, place):
+        """A transfer, often one that a recall of several names, for a bank to which it is instructed."""
+        site = self.handles[place].site
+        held = site.messages if site else set()
+        named = sorted({key for message in held if message[0] == RECALL and len(message[2]) > 1
+                        for key in transfers(message)})
+        if not named or self.r.random() < 0.4:
+            return self.transfer_text_for()
+        key = self.r.choice(named)
+        banks = sorted({dict(one[2][0])["CdtrAgt"] for one in rights.instructions(held, key)})
+        return [self.r.choice(banks).encode() if banks else self.banks(), *key]
+
+    def bank_totals_for(self):
+        banks = self.banks()
+        return [banks, banks[:8] if self.r.random() < 0.5 else self.bank()]
+
+    def report_for(self):
+        """Any report, or one of the first of the banks on a list of the transfers that there may be."""
+        banks, (bank, day, rows) = self.banks(), self.report()
+        if self.r.random() < 0.4:
+            return [banks, bank, day, rows]
+        listed = [[self.pool.banks[0], tx, "1.00", "PENDING"] for tx in self.pool.transfers]
+        rows = "".join(",".join(row) + "\n" for row in [model.HEADER, *listed])
+        return [banks, banks.partition(b",")[0], DAYS[0].encode(), rows.encode()]
 
     def transfer_text(self):
         name = self.r.choice([*self.pool.transfers, "T99"]) if self.r.random() < 0.9 else self.r.choice(WRONG_NAMES)
@@ -220,8 +291,8 @@ class Day:
 
 
 # calls whose arguments go by what the handle has
-PLACED = ["accept", "answer", "answer_part", "why", "digest", "entries", "journal_text", "newest_text", "open",
-          "restore"]
+PLACED = ["accept", "answer", "answer_part", "why", "digest", "entries", "journal_text", "messages_text_for",
+          "newest_text", "open", "restore"]
 
 
 def wrong(call, reply):
@@ -238,6 +309,7 @@ def ran(program, before, seed, days):
                                                                                        for call in calls)
     met += collections.Counter(f"why {call.text[:2].decode()}" for call in calls if call.request[0] == "why"
                                and call.text)
+    met.update(thing for call in calls for thing in call.met)
     words = ["null"] if days.start // DAYS_OF_A_RUN % 2 else []
     try:
         replies = driving.asked(program, [call.request for call in calls], before, words)
@@ -266,7 +338,7 @@ def checked(name, program, before, seed, many):
     """How many calls passed, and how many runs of them failed. All has to be met if there are as many calls as usual,
     or more."""
     made, met, failures = tried(program, before, seed, many)
-    things = [*CALLS, *NUMBERS, *REASONS]
+    things = [*CALLS, *NUMBERS, *REASONS, *FOR_BANKS]
     print(f"{made} calls {name}: " + ", ".join(f"{thing} {met[thing]}" for thing in things), flush=True)
     for failure in failures[:3]:
         print(failure, flush=True)

@@ -46,11 +46,17 @@ EXTRA = "x" * 3000
 REFUSED = line(samples.instruction(**{EXTRA: ""}))
 TEXTS = ["archive_text", "status_text", "totals_text", "contradictions_text", "vector_text"]
 
+# a message that has to wait for its instruction
+EARLY = line(samples.confirmation(OrgnlTxId="T77", MsgId="C8"))
+
 CALLS = [
     Tried("open", [1, GROUP], False),
     Tried("restore", [1, GROUP, b"\n".join(EARLIER + [b"{"]), delta(2, 1, 4, 5)], False),
     Tried("take", [FRESH], True), Tried("take", [EARLIER[3]], True),
     Tried("take", [b'{"MsgNmId":"pacs.008","MsgId":7}'], True),
+    Tried("take_as", [b"BANKDEFF", FRESH], True), Tried("take_as", [b"BANKDEFF", EARLIER[3]], True),
+    Tried("take_as", [b"BANKITMM,BANQFRPP", line(samples.confirmation(OrgnlTxId="T2", MsgId="C7"))], True),
+    Tried("take_as", [b"BANQFRPP", EARLY], True), Tried("take_as", [b"BANQFRPP", b"{"], True),
     Tried("take_lines", [LINES], True), Tried("accept", [delta(2, 3, 6, 7, 8, 9)], True),
     Tried("accept", [delta(2, 3, 6, 7)[:-2]], True),
     Tried("counts", [GROUP], True), Tried("vector_text", [], True), Tried("cut", [b"1:1,2:1"], True),
@@ -60,7 +66,13 @@ CALLS = [
     Tried("contradictions_text", [], True), Tried("report", [b"BANKDEFF", b"2024-05-02", LIST.encode()], True),
     Tried("kept_text", [b"2024-06-01"], True), Tried("closed_text", [b"2024-06-01"], True),
     Tried("transfer_text", [b"BANKDEFF", b"T1"], True), Tried("messages_text", [b"BANKDEFF", b"T1"], True),
-    Tried("bank_totals", [b"BANKDEFF"], True), Tried("changes", [], True), Tried("journal_text", [2], True),
+    Tried("bank_totals", [b"BANKDEFF"], True), Tried("transfer_text_for", [b"BANQFRPP", b"BANKDEFF", b"T1"], True),
+    Tried("transfer_text_for", [b"BANKITMM", b"BANKDEFF", b"T1"], True),
+    Tried("messages_text_for", [b"BANQFRPP,BANKITMM", b"BANKDEFF", b"T1"], True),
+    Tried("messages_text_for", [b"BANKITMM", b"BANKDEFF", b"T1"], True),
+    Tried("bank_totals_for", [b"BANQFRPP", b"BANQFRPP"], True),
+    Tried("report_for", [b"BANKITMM,BANQFRPP", b"BANQFRPP", b"2024-05-02", LIST.encode()], True),
+    Tried("changes", [], True), Tried("journal_text", [2], True),
     Tried("newest_text", [6], True), Tried("reading_text", [LINES], True), Tried("evaluate", [], True),
     Tried("why", [1 << 12], True),
     Tried("answer", [1 << 12], True), Tried("answer_part", [9, 1 << 12], True), Tried("answer_end", [], True),

@@ -11,7 +11,7 @@ from bench.generate import messages, samples
 from tests import harness
 from tests.embed import driving
 from tests.harness import reported
-from tests.inputs import delta, instruction
+from tests.inputs import confirmation, delta, instruction
 
 BANK, DAY, LIST = b"BANKDEFF", b"2024-05-02", b"DbtrAgt,TxId,Amt,Sts\nBANKDEFF,T1,1.00,ACCEPTED\n"
 LINES = "".join(messages.lines(300)).encode() + b"nothing\n{}\n"
@@ -32,8 +32,13 @@ REFUSED = [("take", 0, b"{"), ("take", 0, b'{"MsgNmId":"pacs.008","MsgId":7}'),
            ("transfer_text", 0, b"", b"T1"), ("messages_text", 0, BANK, b""),
            ("bank_totals", 0, b"X"), ("counts", 0, 1025),
            ("kept_text", 0, b"today"), ("closed_text", 0, b""), ("entries", 0, 0, 0, 1), ("entries", 0, 1, 0, 0),
-           ("digest", 0, 0, 0), ("digest", 0, 1, 1 << 60)]
-REPEATS = [TAKES[0], ACCEPTS[0], ("accept", 0, b"delta 2\nend 0\n"), ("take_lines", 0, LINES)]
+           ("digest", 0, 0, 0), ("digest", 0, 1, 1 << 60), ("take_as", 0, b"BANKITMM", instruction(1).encode()),
+           ("take_as", 0, b"BANQFRPP", confirmation(99).encode()), ("take_as", 0, BANK, b"{"),
+           ("take_as", 0, b"BANKDEFF,", b"{"), ("transfer_text_for", 0, b"", BANK, b"T1"),
+           ("messages_text_for", 0, BANK, BANK, b""), ("bank_totals_for", 0, b"BANKITMM", BANK),
+           ("report_for", 0, b"BANKITMM", BANK, DAY, LIST), ("report_for", 0, BANK, BANK, DAY, b"x")]
+REPEATS = [TAKES[0], ACCEPTS[0], ("accept", 0, b"delta 2\nend 0\n"), ("take_lines", 0, LINES),
+           ("take_as", 0, b"BANQFRPP,BANKDEFF", instruction(1).encode())]
 QUESTIONS = [("vector_text", 0), ("archive_text", 0), ("status_text", 0),
              ("totals_text", 0), ("contradictions_text", 0),
              ("changes", 0), ("evaluate", 0), ("cut", 0, b"1:3"), ("cut_above", 0, [2]), ("entries", 0, 1, 2, 1000),
@@ -41,7 +46,9 @@ QUESTIONS = [("vector_text", 0), ("archive_text", 0), ("status_text", 0),
              ("journal_text", 0, 2), ("newest_text", 0, 5), ("reading_text", 0, LINES), ("report", 0, BANK, DAY, LIST),
              ("transfer_text", 0, BANK, b"T1"),
              ("messages_text", 0, BANK, b"T1"), ("bank_totals", 0, BANK), ("kept_text", 0, DAY),
-             ("closed_text", 0, b"2025-01-01"),
+             ("closed_text", 0, b"2025-01-01"), ("transfer_text_for", 0, b"BANQFRPP", BANK, b"T1"),
+             ("transfer_text_for", 0, b"BANKITMM", BANK, b"T1"), ("messages_text_for", 0, b"BANQFRPP", BANK, b"T1"),
+             ("bank_totals_for", 0, BANK, BANK), ("report_for", 0, b"BANQFRPP,BANKDEFF", BANK, DAY, LIST),
              ("why", 0, 99), ("answer", 0, 1 << 20), ("answer_part", 0, 1, 9), ("counts", 0, 3)]
 OPEN, CLOSE, HELD = ("open", 0, 1, 3), ("close", 0), ("held", 0)
 RESTORE = ("restore", 0, 1, 3, LINES, delta(2, 1, 11, 12))

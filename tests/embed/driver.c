@@ -55,6 +55,8 @@ static const struct form {
     {"totals_text", 0, 0, true},  {"contradictions_text", 0, 0, true}, {"report", 0, 3, true},  {"transfer_text", 0, 2, true},
     {"kept_text", 0, 1, true},    {"closed_text", 0, 1, true},
     {"messages_text", 0, 2, true}, {"bank_totals", 0, 1, true},  {"changes", 0, 0, true},       {"answer", 1, 0, false},
+    {"take_as", 0, 2, false},     {"transfer_text_for", 0, 3, true}, {"messages_text_for", 0, 3, true},
+    {"bank_totals_for", 0, 2, true}, {"report_for", 0, 4, true},
     {"answer_part", 2, 0, false}, {"answer_end", 0, 0, true},    {"why", 1, 0, false},          {"code_name", 2, 0, false},
     {"code_text", 2, 0, false},   {"version", 0, 0, false},      {"layout", 0, 0, false},       {"refuse", 2, 0, false},
     {"stack", 0, 0, false},       {"held", 0, 0, false},         {"move", 1, 0, false},
@@ -163,6 +165,10 @@ static struct result of_outcome(sct_outcome made) {
     return (struct result){{made.ok, made.code, made.place, made.length, made.reserved}, 5, {NULL, 0}};
 }
 
+static struct result of_take(sct_taken took) {
+    return (struct result){{took.ok, took.code, took.is_repeat, took.place, took.number, took.reserved}, 6, {NULL, 0}};
+}
+
 /* Three parts of a third of the answer each, and one after its end, are the answer. */
 static void check_parts(sct_site *site, struct bytes answer) {
     size_t third = answer.length / 3 + 1;
@@ -223,6 +229,13 @@ static sct_outcome outcome_of(const char *name, sct_site *site, const unsigned l
     if (is(name, "transfer_text")) return sct_site_transfer_text(site, t[0].at, t[0].length, t[1].at, t[1].length);
     if (is(name, "messages_text")) return sct_site_messages_text(site, t[0].at, t[0].length, t[1].at, t[1].length);
     if (is(name, "bank_totals")) return sct_site_bank_totals(site, t[0].at, t[0].length);
+    if (is(name, "transfer_text_for"))
+        return sct_site_transfer_text_for(site, t[0].at, t[0].length, t[1].at, t[1].length, t[2].at, t[2].length);
+    if (is(name, "messages_text_for"))
+        return sct_site_messages_text_for(site, t[0].at, t[0].length, t[1].at, t[1].length, t[2].at, t[2].length);
+    if (is(name, "bank_totals_for")) return sct_site_bank_totals_for(site, t[0].at, t[0].length, t[1].at, t[1].length);
+    if (is(name, "report_for"))
+        return sct_site_report_for(site, t[0].at, t[0].length, t[1].at, t[1].length, t[2].at, t[2].length, t[3].at, t[3].length);
     must(is(name, "changes"), "there is no such call");
     return sct_site_changes(site);
 }
@@ -306,8 +319,9 @@ static struct result called(const char *name, sct_site *site, const unsigned lon
     } else if (is(name, "close")) {
         sct_site_close(site);
     } else if (is(name, "take")) {
-        sct_taken took = sct_site_take(site, t[0].at, t[0].length);
-        result = (struct result){{took.ok, took.code, took.is_repeat, took.place, took.number, took.reserved}, 6, {NULL, 0}};
+        result = of_take(sct_site_take(site, t[0].at, t[0].length));
+    } else if (is(name, "take_as")) {
+        result = of_take(sct_site_take_as(site, t[0].at, t[0].length, t[1].at, t[1].length));
     } else if (is(name, "accept")) {
         sct_accepted accepted = sct_site_accept(site, t[0].at, t[0].length);
         result = (struct result){{accepted.ok, accepted.code, accepted.place, accepted.fresh, accepted.reserved}, 5, {NULL, 0}};
@@ -368,7 +382,7 @@ static bool served(void) {
     char name[32];
     size_t handle;
     unsigned long numbers[3] = {0};
-    struct bytes texts[3] = {{NULL, 0}};
+    struct bytes texts[4] = {{NULL, 0}};
     if (scanf("%31s %zu", name, &handle) != 2) return false;
     const struct form *form = form_of(name);
     must(handle < HANDLES, "there is no such handle");

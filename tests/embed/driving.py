@@ -29,8 +29,9 @@ VALGRIND = ["valgrind", "--quiet", "--leak-check=full", "--show-leak-kinds=all",
             "--error-exitcode=9"]
 
 OUTCOME = ("ok", "code", "place", "length", "reserved")
+TAKEN = ("ok", "code", "is_repeat", "place", "number", "reserved")
 FIELDS = collections.defaultdict(lambda: OUTCOME, {
-    "take": ("ok", "code", "is_repeat", "place", "number", "reserved"),
+    "take": TAKEN, "take_as": TAKEN,
     "take_lines": ("ok", "code", "place", "fresh", "repeats", "refused", "length", "reserved"),
     "accept": ("ok", "code", "place", "fresh", "reserved"), "close": (), "version": ("version",),
     "stack": ("bytes",), "layout": (),

@@ -33,6 +33,9 @@ struct text {
 
 static const struct text none = {NULL, 0};
 
+#define TEXT(literal) {(uint8_t *)literal, sizeof literal - 1} /* the cast of a literal, to which nobody writes */
+#define DRAWN(items) items[below(sizeof items / sizeof *items)]
+
 static void must(bool holds, const char *what) {
     if (holds) return;
     fflush(stdout);
@@ -253,13 +256,22 @@ static void close_site(struct life *life) {
     printf("0 0\n");
 }
 
-static sct_taken take(struct life *life, struct text line) {
-    write_call("take", life->number, 0, NULL, 1, &line);
-    sct_taken taken = sct_site_take(&life->site, line.at, line.length);
+static sct_taken took(struct life *life, sct_taken taken) {
     printf("%d %d %d %" PRIu64 " %" PRIu64 " %" PRIu64 " ", taken.ok, taken.code, taken.is_repeat, taken.place, taken.number,
            taken.reserved);
     write_result(life, none);
     return taken;
+}
+
+static sct_taken take(struct life *life, struct text line) {
+    write_call("take", life->number, 0, NULL, 1, &line);
+    return took(life, sct_site_take(&life->site, line.at, line.length));
+}
+
+static sct_taken take_as(struct life *life, struct text banks, struct text line) {
+    struct text texts[] = {banks, line};
+    write_call("take_as", life->number, 0, NULL, 2, texts);
+    return took(life, sct_site_take_as(&life->site, banks.at, banks.length, line.at, line.length));
 }
 
 static void take_lines(struct life *life, struct text lines) {
@@ -338,6 +350,40 @@ static void closed_text(struct life *life, struct text day) {
     free(answered_by(life, sct_site_closed_text(&life->site, day.at, day.length)).at);
 }
 
+/* ---- for banks. All texts are constant, and nobody writes to them */
+
+static const struct text bank_lists[] = {TEXT("HANSDEHH"), TEXT("LUTEFRPP,SCALBEBB"), TEXT("MEUSNL2R,RHEIDE3K,SUOMFIHH"),
+                                         TEXT("TURIESMMXXX,ARNOITFF,ALPEATWW"), TEXT("HANSDEHH,"), TEXT("RHEIDE3K370,MEUSNL2RXXX")};
+static const struct text originators[] = {TEXT("HANSDEHH"), TEXT("MEUSNL2R"), TEXT("RHEIDE3KXXX")};
+static const struct text identifications[] = {TEXT("HH-0005"), TEXT("NL-1"), TEXT("RK-77")};
+static const struct text settlement_day = TEXT("2025-03-10");
+static const struct text list = TEXT("DbtrAgt,TxId,Amt,Sts\nHANSDEHH,HH-0005,1.00,PENDING\nRHEIDE3K,RK-77,1.00,PENDING\n");
+
+static struct text transfer_text_for(struct life *life, struct text banks, struct text bank, struct text tx) {
+    struct text texts[] = {banks, bank, tx};
+    write_call("transfer_text_for", life->number, 0, NULL, 3, texts);
+    return answered_by(life, sct_site_transfer_text_for(&life->site, banks.at, banks.length, bank.at, bank.length, tx.at, tx.length));
+}
+
+static struct text messages_text_for(struct life *life, struct text banks, struct text bank, struct text tx) {
+    struct text texts[] = {banks, bank, tx};
+    write_call("messages_text_for", life->number, 0, NULL, 3, texts);
+    return answered_by(life, sct_site_messages_text_for(&life->site, banks.at, banks.length, bank.at, bank.length, tx.at, tx.length));
+}
+
+static struct text bank_totals_for(struct life *life, struct text banks, struct text bank) {
+    struct text texts[] = {banks, bank};
+    write_call("bank_totals_for", life->number, 0, NULL, 2, texts);
+    return answered_by(life, sct_site_bank_totals_for(&life->site, banks.at, banks.length, bank.at, bank.length));
+}
+
+static struct text report_for(struct life *life, struct text banks, struct text bank) {
+    struct text texts[] = {banks, bank, settlement_day, list};
+    write_call("report_for", life->number, 0, NULL, 4, texts);
+    return answered_by(life, sct_site_report_for(&life->site, banks.at, banks.length, bank.at, bank.length, settlement_day.at,
+                                                 settlement_day.length, list.at, list.length));
+}
+
 static void evaluate(struct life *life) {
     write_call("evaluate", life->number, 0, NULL, 0, NULL);
     written(life, sct_site_evaluate(&life->site), none);
@@ -407,7 +453,7 @@ static void take_some(struct life *life, const char *folder, uint64_t most) {
     } else {
         struct text line = next_lines(life, 1);
         if (line.length > 0 && line.at[line.length - 1] == '\n') line.length--;
-        take(life, line);
+        if (!take_as(life, DRAWN(bank_lists), line).ok) take(life, line);
     }
     keep_journal(life, folder);
 }
@@ -481,9 +527,21 @@ static void begin_again(struct life *life, const char *folder, uint16_t group) {
     free(journal.at);
 }
 
+/* A question for banks. */
+static struct text asked_for(struct life *life) {
+    struct text banks = DRAWN(bank_lists);
+    uint64_t place = below(3);
+    switch (below(4)) {
+    case 0: return transfer_text_for(life, banks, originators[place], identifications[place]);
+    case 1: return messages_text_for(life, banks, originators[place], identifications[place]);
+    case 2: return bank_totals_for(life, banks, originators[place]);
+    default: return report_for(life, banks, originators[place]);
+    }
+}
+
 static void question(struct life *life) {
     struct text vector = {(uint8_t *)"-", 1}, day = {(uint8_t *)"2025-03-11", 10}; /* casts of literals, to which nobody writes */
-    switch (below(8)) {
+    switch (below(12)) {
     case 0: evaluate(life); break;
     case 1: answer_end(life); break;
     case 2: read_lines(life, life->lines); break;
@@ -491,6 +549,7 @@ static void question(struct life *life) {
     case 4: free(asked(life, "status_text", status_of).at); break;
     case 5: kept_text(life, day); break;
     case 6: closed_text(life, day); break;
+    case 7: case 8: case 9: case 10: free(asked_for(life).at); break;
     default:
         free(life->whole.at);
         life->whole = cut(life, vector);

@@ -144,9 +144,11 @@ class Life {
     }
     sct_taken take(const string &line) {
         call("take", {}, {line});
-        const sct_taken it = its_.take(line);
-        result(fields({it.ok, it.code, it.is_repeat, it.place, it.number, it.reserved}), "");
-        return it;
+        return took(its_.take(line));
+    }
+    sct_taken take_as(const string &banks, const string &line) {
+        call("take_as", {}, {banks, line});
+        return took(its_.take_as(banks, line));
     }
     void take_lines(const string &text) {
         call("take_lines", {}, {text});
@@ -203,6 +205,18 @@ class Life {
     string report(const string &bank, const string &day, const string &list) {
         return asked("report", {}, {bank, day, list}, [&] { return its_.report(bank, day, list); });
     }
+    string transfer_text_for(const string &banks, const string &bank, const string &tx) {
+        return asked("transfer_text_for", {}, {banks, bank, tx}, [&] { return its_.transfer_text_for(banks, bank, tx); });
+    }
+    string messages_text_for(const string &banks, const string &bank, const string &tx) {
+        return asked("messages_text_for", {}, {banks, bank, tx}, [&] { return its_.messages_text_for(banks, bank, tx); });
+    }
+    string bank_totals_for(const string &banks, const string &bank) {
+        return asked("bank_totals_for", {}, {banks, bank}, [&] { return its_.bank_totals_for(banks, bank); });
+    }
+    string report_for(const string &banks, const string &bank, const string &day, const string &list) {
+        return asked("report_for", {}, {banks, bank, day, list}, [&] { return its_.report_for(banks, bank, day, list); });
+    }
     string why() { return its_.why(); }
 
     // The site goes to another object, to one whose own site ends by that, and comes back.
@@ -232,6 +246,10 @@ class Life {
         line += "\n";
         for (const string &text : texts) line += text;
         std::fwrite(line.data(), 1, line.size(), stdout);
+    }
+    sct_taken took(const sct_taken it) {
+        result(fields({it.ok, it.code, it.is_repeat, it.place, it.number, it.reserved}), "");
+        return it;
     }
     void result(const string &its_fields, const string &text) {
         const string why_text = its_.why();
@@ -313,8 +331,9 @@ class Hub {
         if (below(2)) {
             life.take_lines(next_lines(life, 4));
         } else {
-            const string line = next_lines(life, 1);
-            life.take(line.substr(0, line.find('\n')));
+            const string next = next_lines(life, 1), line = next.substr(0, next.find('\n'));
+            if (!life.take_as(banks(), line).ok) life.take(line);
+            if (below(3) == 0) life.take(line);  // it comes again
         }
         keep_journal(life);
     }
@@ -351,8 +370,20 @@ class Hub {
         const string refused = life.restore(static_cast<uint16_t>(life.number), group_, journal, below(2) ? life.whole : "");
         must(refused.empty() && life.counts(static_cast<std::size_t>(life.number)).back() == life.kept, "a site lost messages");
     }
+    string banks() {
+        const Texts lists = {"HANSDEHH", "LUTEFRPP,SCALBEBB", "MEUSNL2R,RHEIDE3KXXX,SUOMFIHH", "RHEIDE3K370,ALPEATWW", ",HANSDEHH"};
+        return lists[below(lists.size())];
+    }
+    void ask_for_banks(Life &life) {
+        switch (below(4)) {
+        case 0: life.transfer_text_for(banks(), "RHEIDE3K", "RK-77"); break;
+        case 1: life.messages_text_for(banks(), "RHEIDE3K", "RK-77"); break;
+        case 2: life.bank_totals_for(banks(), "RHEIDE3K"); break;
+        default: life.report_for(banks(), "RHEIDE3K", "2025-03-10", "DbtrAgt,TxId,Amt,Sts\nRHEIDE3K,RK-77,1.00,PENDING\n");
+        }
+    }
     void ask(Life &life) {
-        switch (below(12)) {
+        switch (below(16)) {
         case 0: life.evaluate(); break;
         case 1: life.answer_end(); break;
         case 2: life.reading_text(life.lines); break;
@@ -364,6 +395,7 @@ class Hub {
         case 8: life.report("RHEIDE3K", "2025-03-10", "DbtrAgt,TxId,Amt,Sts\nRHEIDE3K,RK-77,1.00,PENDING\n"); break;
         case 9: life.kept_text("2025-03-11"); break;
         case 10: life.closed_text("2025-03-11"); break;
+        case 11: case 12: case 13: case 14: ask_for_banks(life); break;
         default: life.whole = life.cut("-");
         }
     }

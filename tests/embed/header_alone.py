@@ -36,7 +36,9 @@ TO_MEET = ["open", "restore", "close", "take", "take_lines", "accept", "counts",
            "digest", "digests_text", "vector_text",
            "journal_text", "newest_text", "reading_text", "evaluate", "changes", "answer_end", "status_text",
            "archive_text", "kept_text", "closed_text",
-           "refused 41", "refused 42", "refused 43", "refused 45", "a repeat", "a delta again", "a cut that was kept"]
+           "take_as", "transfer_text_for", "messages_text_for", "bank_totals_for", "report_for",
+           "refused 41", "refused 42", "refused 43", "refused 45", "refused 73", "refused 79", "refused 80", "refused 83",
+           "a repeat", "a delta again", "a cut that was kept"]
 
 
 def programs(folder, source):
@@ -53,10 +55,11 @@ def programs(folder, source):
 
 def results_of_nulls():
     """What nulls.c must print."""
-    empty = {"take": [b""], "take_lines": [b""], "accept": [b""], "counts": [0], "cut": [b""], "reading_text": [b""],
-             "report": [b"", b"", b""], "kept_text": [b""], "closed_text": [b""],
+    empty = {"take": [b""], "take_as": [b"", b""], "take_lines": [b""], "accept": [b""], "counts": [0], "cut": [b""],
+             "reading_text": [b""], "report": [b"", b"", b""], "kept_text": [b""], "closed_text": [b""],
              "transfer_text": [b"", b""], "messages_text": [b"", b""],
-             "bank_totals": [b""], "cut_above": [[]]}
+             "bank_totals": [b""], "cut_above": [[]], "transfer_text_for": [b"", b"", b""],
+             "messages_text_for": [b"", b"", b""], "bank_totals_for": [b"", b""], "report_for": [b"", b"", b"", b""]}
     last = [("answer", [0]), ("answer_part", [3, 0]), ("answer_end", []), ("answer", [0]), ("why", [0])]
     handle = model.Handle()
     for name, arguments in [("restore", [1, 2, b"", b""]), *empty.items(), *last]:

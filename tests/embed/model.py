@@ -7,13 +7,13 @@ names, and the text that it makes or copies, or None. Memory never runs out here
 import csv
 import io
 import struct
-from tests.oracle import exchange, keep, status
+from tests.oracle import exchange, keep, rights, status
+from tests.oracle.answers import bank_line, lines_on, report_text
 from tests.oracle.digests import Chains
-from tests.oracle.status import by_transfer, contradicted, lines_of, standing, transfers
+from tests.oracle.status import by_transfer, contradicted, lines_of, transfers
 from tests.property.views import touched
 
 HEADER = ["DbtrAgt", "TxId", "Amt", "Sts"]
-REPORT_HEADER = ["DbtrAgt", "TxId", "Result", "ListAmt", "ListSts", "Amt", "Sts"]
 WORDS = ["ACCEPTED", "REJECTED", "RETURNED", "PENDING", "INVESTIGATED"]
 MOST_ITEMS = 1024
 MOST_TEXT = (64 << 20) - 1  # bytes of a text of entries, at most
@@ -38,8 +38,14 @@ CODES = {31: ("NotJson", "the bytes are not one JSON text in UTF-8"),
          71: ("Full", "the handle has a site already"), 72: ("BadVector", "the text is not a version vector"),
          73: ("BadArgument",
               "a bank, an identification, a day, an origin, a count or a size is not valid: the place is that of "
-              "the argument, from 1")}
-PLACED = {45, 46, 48, 56, 73}  # the numbers that a place follows
+              "the argument, from 1"), 79: ("NotYours", "the bank is none of the banks that ask"),
+         80: ("NotSender", "the sender of the message is none of the banks in whose name it is sent"),
+         81: ("NotOriginator", "the originator bank of the transaction at the place is none of the banks"),
+         82: ("NotBeneficiary", "the beneficiary bank of each instruction on the transfer is none of the banks"),
+         83: ("Waits",
+              "no instruction on the transfer is held yet; the call can be made again when there is one")}
+PLACED = {45, 46, 48, 56, 73, 81}  # the numbers that a place follows
+VERDICTS = {"NotSender": 80, "NotOriginator": 81, "NotBeneficiary": 82, "Waits": 83}
 
 # all fields that a result may have
 FIELDS = ["place", "length", "is_repeat", "number", "fresh", "repeats", "refused", "reserved"]
@@ -74,33 +80,16 @@ def element(kind, text, place):
     return found
 
 
-def transfer(bank, tx):
-    return element(status.bic, bank, 1).encode(), element(status.id35, tx, 2).encode()
+def transfer(bank, tx, place=1):
+    """The transfer that a bank, which is the argument in a place, and an identification after it name."""
+    return element(status.bic, bank, place).encode(), element(status.id35, tx, place + 1).encode()
 
 
-# ---- answers on what is held
-
-def lines_on(key, said, against):
-    """The lines of a transfer in the status text."""
-    name = "|".join(part.decode() for part in key)
-    if not said:
-        return f"T|{name}|UNKNOWN\n"
-    word, found, recalls = standing(said, against)
-    return "".join([f"T|{name}|{word}\n", *(f"F|{name}|{one}\n" for one in found),
-                    *(f"R|{name}|{one}\n" for one in recalls)])
-
-
-def all_lines(messages):
-    """The lines of each transfer."""
-    against = contradicted(messages)
-    return {key: lines_on(key, said, against) for key, said in by_transfer(messages).items()}
-
-
-def bank_line(messages, bank):
-    """The line of a bank in the totals text. A bank without totals has one too."""
-    lines = status.totals_text(messages).splitlines(keepends=True)
-    found = [line for line in lines if line.startswith(bank + "|")]
-    return found[0] if found else f"{bank}|0|0.00|0.00|0|0|0|0|0|0.00|0.00\n"
+def one_of(banks, bank):
+    """A bank, which must be one of some banks."""
+    if bank not in banks:
+        raise Refusal("79")
+    return bank
 
 
 def rows_in(text):
@@ -118,43 +107,6 @@ def rows_in(text):
             raise Refusal(f"48 {place}")
         rows.append(((found[0].encode(), found[1].encode()), found[2], found[3]))
     return rows
-
-
-def result_of(rows, word, cents):
-    """The first of the eight results that holds."""
-    if len(rows) > 1:
-        return "LISTED_TWICE"
-    if word == "CONTRADICTED":
-        return word
-    if word in ("UNKNOWN", "MISSING"):
-        return "ONLY_IN_LIST" if rows else "MISSING"
-    if not rows:
-        return "ONLY_IN_ARCHIVE"
-    if rows[0][1] != cents:
-        return "AMOUNT_DIFFERS"
-    return "MATCHED" if rows[0][2] == word else "STATUS_DIFFERS"
-
-
-def report_text(messages, bank, day, rows):
-    """The report on a list."""
-    against, by, keys = contradicted(messages), by_transfer(messages), {key for key, _, _ in rows}
-    instructed = {}
-    for key, said in by.items():
-        instructions = status.Clean(said, against).instructions
-        instructed[key] = instructions[0] if len(instructions) == 1 else {}
-        is_of_bank = bank.encode() == key[0] or instructed[key].get("CdtrAgt") == bank
-        if is_of_bank and instructed[key].get("IntrBkSttlmDt", day) == day:
-            keys.add(key)
-    text = io.StringIO()
-    writer = csv.writer(text, lineterminator="\n")
-    writer.writerow(REPORT_HEADER)
-    for key in sorted(keys):
-        word = standing(by[key], against)[0].partition("|")[0] if key in by else "UNKNOWN"
-        cents, on = instructed.get(key, {}).get("IntrBkSttlmAmt"), [row for row in rows if row[0] == key]
-        listed = [status.euros(on[0][1]), on[0][2]] if len(on) == 1 else ["", ""]
-        writer.writerow([*(part.decode() for part in key), result_of(on, word, cents), *listed,
-                         status.euros(cents) if cents else "", word])
-    return text.getvalue()
 
 
 # ---- a site
@@ -264,7 +216,18 @@ class Handle:
     # ---- messages and deltas in
 
     def take(self, json):
-        message = read(json)
+        return self.taken(read(json), json)
+
+    def take_as(self, banks, json):
+        banks, message = element(rights.banks_in, banks, 1), read(json)
+        word, *about = rights.verdict(banks, self.site.messages, message)
+        if word in VERDICTS:
+            words = [str(one) for one in about] if word != "Waits" else [part.decode() for part in about[0]]
+            raise Refusal(" ".join([str(VERDICTS[word]), *words]))
+        return self.taken(message, json)
+
+    def taken(self, message, json):
+        """What a take of a message comes to, which came as this object."""
         is_repeat = message in self.site.messages
         self.site.take(message)
         self.journal += [] if is_repeat else [json.replace(b"\n", b" ")]
@@ -381,6 +344,27 @@ class Handle:
 
     def bank_totals(self, bank):
         return self.made(bank_line(self.site.messages, element(status.bic, bank, 1)))
+
+    # ---- the same for banks
+
+    def transfer_text_for(self, banks, bank, tx):
+        banks = element(rights.banks_in, banks, 1)
+        return self.made(rights.transfer_text(banks, self.site.messages, transfer(bank, tx, 2)))
+
+    def messages_text_for(self, banks, bank, tx):
+        banks = element(rights.banks_in, banks, 1)
+        return self.made(rights.messages_text(banks, self.site.messages, transfer(bank, tx, 2)))
+
+    def bank_totals_for(self, banks, bank):
+        banks, bank = element(rights.banks_in, banks, 1), element(status.bic, bank, 2)
+        return self.made(rights.bank_text(banks, self.site.messages, one_of(banks, bank)))
+
+    def report_for(self, banks, bank, day, rows):
+        banks, bank, day = (element(kind, text, place) for place, (kind, text) in enumerate(
+            [(rights.banks_in, banks), (status.bic, bank), (status.day, day)], 1))
+        return self.made(rights.report_for(banks, self.site.messages, one_of(banks, bank), day, rows_in(rows)))
+
+    # ---- changes
 
     def changes(self):
         before, self.watched = self.watched, frozenset(self.site.messages)

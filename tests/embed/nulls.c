@@ -8,9 +8,13 @@ static void made(const char *name, sct_outcome it) {
     printf("%s %d %d %lu %lu %lu\n", name, it.ok, it.code, it.place, (unsigned long)it.length, it.reserved);
 }
 
+static void took(const char *name, sct_taken it) {
+    printf("%s %d %d %d %lu %lu %lu\n", name, it.ok, it.code, it.is_repeat, it.place, it.number, it.reserved);
+}
+
 static void take_nothing(void) {
-    sct_taken taken = sct_site_take(&site, NULL, 0);
-    printf("take %d %d %d %lu %lu %lu\n", taken.ok, taken.code, taken.is_repeat, taken.place, taken.number, taken.reserved);
+    took("take", sct_site_take(&site, NULL, 0));
+    took("take_as", sct_site_take_as(&site, NULL, 0, NULL, 0));
     sct_lines lines = sct_site_take_lines(&site, NULL, 0);
     printf("take_lines %d %d %lu %lu %lu %lu %lu %lu\n", lines.ok, lines.code, lines.place, lines.fresh, lines.repeats, lines.refused,
            (unsigned long)lines.length, lines.reserved);
@@ -29,6 +33,10 @@ static void ask_nothing(void) {
     made("messages_text", sct_site_messages_text(&site, NULL, 0, NULL, 0));
     made("bank_totals", sct_site_bank_totals(&site, NULL, 0));
     made("cut_above", sct_site_cut_above(&site, NULL, 0));
+    made("transfer_text_for", sct_site_transfer_text_for(&site, NULL, 0, NULL, 0, NULL, 0));
+    made("messages_text_for", sct_site_messages_text_for(&site, NULL, 0, NULL, 0, NULL, 0));
+    made("bank_totals_for", sct_site_bank_totals_for(&site, NULL, 0, NULL, 0));
+    made("report_for", sct_site_report_for(&site, NULL, 0, NULL, 0, NULL, 0, NULL, 0));
 }
 
 static void copy_nothing(void) {

@@ -36,13 +36,16 @@ print(library()._name, file=sys.stderr)
 """
 USE = """from typing import Iterator, List, Optional
 from mmap import mmap
-from niluppang import BytesSite, Closed, DeltaRefused, LinesTaken, MessageRefused, NiluppangError, OutOfMemory, Refused, Site, Transfer
+from niluppang import BytesSite, Closed, DeltaRefused, LinesTaken, MessageRefused, NiluppangError, OutOfMemory, Refused, Site
+from niluppang import NotYours, Transfer, Waits, Withheld
 with Site.restore(1, 3, b"", "delta 2\\nend 0\\n") as site, BytesSite(2, 3) as twin, mmap(-1, 2) as mapped:
     split: str = site.kept_text("2024-05-02") + site.closed_text(b"2024-05-02")
     text: str = site.status_text() + site.journal(1) + site.newest(2) + site.reading(mapped) + site.answer()
     data: bytes = twin.cut([1, 2]) + twin.journal() + twin.entries(1, 0, 1)
     taken: LinesTaken[bytes] = twin.take_lines(bytearray(b""))
-    number: Optional[int] = site.take(memoryview(b"{}")).number
+    number: Optional[int] = site.take(memoryview(b"{}")).number or site.take_as("BANKDEFF", b"{}").number
+    shown: bytes = twin.transfer_for(b"BANKDEFF", "BANKDEFF", "T1") + twin.messages_for("BANKDEFF", b"BANKDEFF", "T1")
+    theirs: str = site.bank_totals_for("BANKDEFF", "BANKDEFF") + site.report_for("BANKDEFF", "BANKDEFF", "2024-05-02", b"")
     changes: List[Transfer] = site.changes()
     restored: Site = site
     lines: Iterator[str] = site.status_lines()
@@ -51,11 +54,13 @@ with Site.restore(1, 3, b"", "delta 2\\nend 0\\n") as site, BytesSite(2, 3) as t
     site.evaluate()
     site.answer_end()
 errors: List[NiluppangError] = [Refused(44), MessageRefused(56, 2, "56 2 34 Rsn"), DeltaRefused(41), OutOfMemory(65), Closed(70)]
-values: List[ValueError] = [Refused(44), MessageRefused(31), DeltaRefused(45)]
+values: List[ValueError] = [Refused(44), MessageRefused(31), DeltaRefused(45), NotYours(79), Waits(83)]
+withheld: List[Withheld] = [Withheld(80), Waits(83)]
+waited_for: Optional[Transfer] = Waits(83).transfer
 reasons: List[str] = [error.reason + error.name + error.meaning for error in errors if error.number or error.place]
 """
 WRONG = ["site.number = 2", "site.is_closed = True", "site.take(5)", "text: bytes = site.status_text()",
-         "site.journal('1')"]
+         "site.journal('1')", "site.take_as(['BANKDEFF'], b'{}')"]
 
 
 @contextlib.contextmanager

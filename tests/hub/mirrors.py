@@ -25,13 +25,13 @@ import unicodedata
 import urllib.parse
 from bench.generate import samples
 from tests import harness, inputs
-from tests.embed import model
 from tests.harness import EXAMPLES, SERVICES
 from tests.hub import sites
 from tests.hub.kills import made_lines, messages_of
 from tests.hub.sites import asked, until
 from tests.hub.troubles import tried
 from tests.oracle import status as oracle
+from tests.oracle.answers import all_lines
 from tests.property.views import touched
 sys.path.insert(0, str(harness.DESK))
 import seeking
@@ -268,7 +268,7 @@ class Led:
                                            for bank, tx in names])
 
     def lines(self):
-        return model.all_lines(self.held)
+        return all_lines(self.held)
 
     def event(self, word, found):
         return f"id: {self.run}-{len(self.events)}\nevent: {word}\ndata: {json.dumps(found)}\n\n".encode()
@@ -927,7 +927,7 @@ def loaded(folder, messages):
 
 def values_of(names, r, held):
     """Values for the names that a question needs. Some are of transfers with several messages."""
-    keys = sorted(key for key, said in model.by_transfer(held).items() if len(said) > 3)
+    keys = sorted(key for key, said in oracle.by_transfer(held).items() if len(said) > 3)
     keys = r.sample(keys, 4) + r.sample(sorted({key for message in held for key in oracle.transfers(message)}), 3)
     known = {"before": ["2025-04-01"], "day": ["2025-04-20"],
              "bank": [bank.decode() for bank, _ in keys], "transfer": [tx.decode() for _, tx in keys],

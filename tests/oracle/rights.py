@@ -4,8 +4,8 @@ theirs, and what they are shown.
 Banks are a list of BICs of 11 characters. A message, a set of messages and the key of a transfer are those of
 status.py.
 """
-from tests.embed.model import bank_line, lines_on, report_text
 from tests.oracle import status
+from tests.oracle.answers import bank_line, lines_on, report_text
 from tests.oracle.status import RECALL, by_transfer, contradicted, identity, transactions_of, transfer_key, transfers
 
 MOST_BANKS = 16

@@ -1,6 +1,6 @@
 /* library.c: a stand-in for libniluppang.so, of the definitions. Each call is handed to a process of library.py, which answers it.
  *
- * A request is a line: a call without `sct_raw_`, the number of a site, three numbers, and the lengths of three texts, which follow the line.
+ * A request is a line: a call without `sct_raw_`, the number of a site, three numbers, and the lengths of four texts, which follow the line.
  * A reply is a line of the fields ok, code, place, length, is_repeat, number, fresh, repeats and refused, and the length of a text, which
  * follows. SERVER is the path of library.py. It is for tests of bindings where nothing is proved: it is slow, and ends the process after
  * any fault of its own. It ends the process after a null pointer too, which no function of the library is given.
@@ -32,6 +32,10 @@ struct text {
     size_t length;
 };
 
+struct texts {
+    struct text each[4];
+};
+
 struct numbers {
     unsigned long first, second, third;
 };
@@ -45,8 +49,10 @@ struct reply {
 static pthread_mutex_t lock = PTHREAD_MUTEX_INITIALIZER;
 static int to = -1, from = -1;
 static long sites;
-static const struct text none = {"", 0};
+static const struct texts none;
 static const struct numbers zero = {0, 0, 0};
+
+#define GIVEN(...) ((struct texts){{__VA_ARGS__}})
 
 static void must(bool holds) {
     if (!holds) abort();
@@ -109,15 +115,15 @@ static struct numbers one(unsigned long first) {
 }
 
 /* The reply to a request. Its text is freed by who asks. */
-static struct reply asked(const char *call, long site, struct numbers n, const struct text *texts) {
+static struct reply asked(const char *call, long site, struct numbers n, struct texts texts) {
     struct reply it;
     int place;
     char line[256];
     begin();
-    place = snprintf(line, sizeof line, "%s %ld %lu %lu %lu %zu %zu %zu\n", call, site, n.first, n.second, n.third, texts[0].length,
-                     texts[1].length, texts[2].length);
+    place = snprintf(line, sizeof line, "%s %ld %lu %lu %lu %zu %zu %zu %zu\n", call, site, n.first, n.second, n.third,
+                     texts.each[0].length, texts.each[1].length, texts.each[2].length, texts.each[3].length);
     write_all(line, (size_t)place);
-    for (place = 0; place < 3; place++) write_all(texts[place].at, texts[place].length);
+    for (place = 0; place < 4; place++) write_all(texts.each[place].at, texts.each[place].length);
     read_line(line, sizeof line);
     must(sscanf(line, "%lu %lu %lu %lu %lu %lu %lu %lu %lu %zu", &it.ok, &it.code, &it.place, &it.length, &it.is_repeat, &it.number,
                 &it.fresh, &it.repeats, &it.refused, &it.size) == 10);
@@ -139,9 +145,8 @@ static struct reply refused(uint8_t code) {
 }
 
 /* The reply to a call at a site. */
-static struct reply told(sct_site *site, const char *call, struct numbers n, struct text a, struct text b, struct text c) {
+static struct reply told(sct_site *site, const char *call, struct numbers n, struct texts texts) {
     const struct held *held = site->private_address;
-    const struct text texts[] = {a, b, c};
     struct reply it;
     if (!site->private_is_full) return refused(SCT_EMPTY);
     pthread_mutex_lock(&lock);
@@ -151,13 +156,13 @@ static struct reply told(sct_site *site, const char *call, struct numbers n, str
 }
 
 /* The reply to a call that is refused if there is no memory. */
-static struct reply tried(sct_site *site, const char *call, struct numbers n, struct text a, struct text b, struct text c) {
-    return told(site, site->private_is_full && is_out_of_memory() ? "starved" : call, n, a, b, c);
+static struct reply tried(sct_site *site, const char *call, struct numbers n, struct texts texts) {
+    return told(site, site->private_is_full && is_out_of_memory() ? "starved" : call, n, texts);
 }
 
 /* A call at a site that makes no text. */
-static struct reply called(sct_site *site, const char *call, struct text text) {
-    struct reply it = tried(site, call, zero, text, none, none);
+static struct reply called(sct_site *site, const char *call, struct texts texts) {
+    struct reply it = tried(site, call, zero, texts);
     free(it.text);
     it.text = 0;
     return it;
@@ -172,8 +177,8 @@ static void answers(sct_site *site, uint8_t *text, size_t length) {
 }
 
 /* A call at a site that makes an answer. */
-static struct reply made(sct_site *site, const char *call, struct numbers n, struct text a, struct text b, struct text c) {
-    struct reply it = tried(site, call, n, a, b, c);
+static struct reply made(sct_site *site, const char *call, struct numbers n, struct texts texts) {
+    struct reply it = tried(site, call, n, texts);
     if (it.ok)
         answers(site, it.text, it.size);
     else
@@ -187,12 +192,16 @@ static sct_outcome outcome(struct reply it) {
     return found;
 }
 
-static sct_outcome made_of(sct_site *site, const char *call, struct text a, struct text b, struct text c) {
-    return outcome(made(site, call, zero, a, b, c));
+static sct_taken taken(struct reply it) {
+    sct_taken found = {it.ok, it.code, it.is_repeat, it.place, it.number, 0};
+    return found;
 }
 
-static sct_outcome begun(sct_site *site, const char *call, uint16_t number, uint16_t group, struct text journal, struct text delta) {
-    const struct text texts[] = {journal, delta, none};
+static sct_outcome made_of(sct_site *site, const char *call, struct texts texts) {
+    return outcome(made(site, call, zero, texts));
+}
+
+static sct_outcome begun(sct_site *site, const char *call, uint16_t number, uint16_t group, struct texts texts) {
     const struct numbers numbers = {number, group, 0};
     struct reply it;
     struct held *held;
@@ -220,16 +229,16 @@ uint32_t sct_version(void) {
 }
 
 sct_outcome sct_raw_open(sct_site *site, uint16_t number, uint16_t group) {
-    return begun(site, "open", number, group, none, none);
+    return begun(site, "open", number, group, none);
 }
 
 sct_outcome sct_raw_restore(sct_site *site, uint16_t number, uint16_t group, const uint8_t *journal, size_t journal_length,
                             const uint8_t *delta, size_t delta_length) {
-    return begun(site, "restore", number, group, of(journal, journal_length), of(delta, delta_length));
+    return begun(site, "restore", number, group, GIVEN(of(journal, journal_length), of(delta, delta_length)));
 }
 
 void sct_raw_close(sct_site *site) {
-    struct reply it = told(site, "close", zero, none, none, none);
+    struct reply it = told(site, "close", zero, none);
     if (!site->private_is_full) return;
     free(it.text);
     free(((struct held *)site->private_address)->answer);
@@ -239,25 +248,27 @@ void sct_raw_close(sct_site *site) {
 }
 
 sct_taken sct_raw_take(sct_site *site, const uint8_t *json, size_t length) {
-    struct reply it = called(site, "take", of(json, length));
-    sct_taken found = {it.ok, it.code, it.is_repeat, it.place, it.number, 0};
-    return found;
+    return taken(called(site, "take", GIVEN(of(json, length))));
+}
+
+sct_taken sct_raw_take_as(sct_site *site, const uint8_t *banks, size_t banks_length, const uint8_t *json, size_t length) {
+    return taken(called(site, "take_as", GIVEN(of(banks, banks_length), of(json, length))));
 }
 
 sct_lines sct_raw_take_lines(sct_site *site, const uint8_t *text, size_t length) {
-    struct reply it = made(site, "take_lines", zero, of(text, length), none, none);
+    struct reply it = made(site, "take_lines", zero, GIVEN(of(text, length)));
     sct_lines found = {it.ok, it.code, it.place, it.fresh, it.repeats, it.refused, it.length, 0};
     return found;
 }
 
 sct_accepted sct_raw_accept(sct_site *site, const uint8_t *text, size_t length) {
-    struct reply it = called(site, "accept", of(text, length));
+    struct reply it = called(site, "accept", GIVEN(of(text, length)));
     sct_accepted found = {it.ok, it.code, it.place, it.fresh, 0};
     return found;
 }
 
 sct_outcome sct_raw_counts(sct_site *site, uint64_t *counts, size_t items) {
-    struct reply it = told(site, "counts", one(items), none, none, none);
+    struct reply it = told(site, "counts", one(items), none);
     must(counts != 0);
     if (it.ok) memcpy(counts, it.text, it.size);
     free(it.text);
@@ -265,33 +276,33 @@ sct_outcome sct_raw_counts(sct_site *site, uint64_t *counts, size_t items) {
 }
 
 sct_outcome sct_raw_cut(sct_site *site, const uint8_t *vector, size_t length) {
-    return made_of(site, "cut", of(vector, length), none, none);
+    return made_of(site, "cut", GIVEN(of(vector, length)));
 }
 
 sct_outcome sct_raw_cut_above(sct_site *site, const uint64_t *counts, size_t items) {
-    return made_of(site, "cut_above", of(counts, 8 * items), none, none);
+    return made_of(site, "cut_above", GIVEN(of(counts, 8 * items)));
 }
 
 sct_outcome sct_raw_entries(sct_site *site, uint16_t origin, uint64_t above, uint64_t most) {
     const struct numbers numbers = {origin, above, most};
-    return outcome(made(site, "entries", numbers, none, none, none));
+    return outcome(made(site, "entries", numbers, none));
 }
 
 sct_outcome sct_raw_digest(sct_site *site, uint16_t origin, uint64_t count) {
     const struct numbers numbers = {origin, count, 0};
-    return outcome(made(site, "digest", numbers, none, none, none));
+    return outcome(made(site, "digest", numbers, none));
 }
 
 sct_outcome sct_raw_journal_text(sct_site *site, uint64_t above) {
-    return outcome(made(site, "journal_text", one(above), none, none, none));
+    return outcome(made(site, "journal_text", one(above), none));
 }
 
 sct_outcome sct_raw_newest_text(sct_site *site, uint64_t count) {
-    return outcome(made(site, "newest_text", one(count), none, none, none));
+    return outcome(made(site, "newest_text", one(count), none));
 }
 
 sct_outcome sct_raw_reading_text(sct_site *site, const uint8_t *text, size_t length) {
-    return made_of(site, "reading_text", of(text, length), none, none);
+    return made_of(site, "reading_text", GIVEN(of(text, length)));
 }
 
 sct_outcome sct_raw_evaluate(sct_site *site) {
@@ -300,32 +311,52 @@ sct_outcome sct_raw_evaluate(sct_site *site) {
 
 sct_outcome sct_raw_report(sct_site *site, const uint8_t *bank, size_t bank_length, const uint8_t *day, size_t day_length,
                            const uint8_t *list, size_t list_length) {
-    return made_of(site, "report", of(bank, bank_length), of(day, day_length), of(list, list_length));
+    return made_of(site, "report", GIVEN(of(bank, bank_length), of(day, day_length), of(list, list_length)));
 }
 
 sct_outcome sct_raw_kept_text(sct_site *site, const uint8_t *day, size_t day_length) {
-    return made_of(site, "kept_text", of(day, day_length), none, none);
+    return made_of(site, "kept_text", GIVEN(of(day, day_length)));
 }
 
 sct_outcome sct_raw_closed_text(sct_site *site, const uint8_t *day, size_t day_length) {
-    return made_of(site, "closed_text", of(day, day_length), none, none);
+    return made_of(site, "closed_text", GIVEN(of(day, day_length)));
 }
 
 sct_outcome sct_raw_transfer_text(sct_site *site, const uint8_t *bank, size_t bank_length, const uint8_t *tx, size_t tx_length) {
-    return made_of(site, "transfer_text", of(bank, bank_length), of(tx, tx_length), none);
+    return made_of(site, "transfer_text", GIVEN(of(bank, bank_length), of(tx, tx_length)));
 }
 
 sct_outcome sct_raw_messages_text(sct_site *site, const uint8_t *bank, size_t bank_length, const uint8_t *tx, size_t tx_length) {
-    return made_of(site, "messages_text", of(bank, bank_length), of(tx, tx_length), none);
+    return made_of(site, "messages_text", GIVEN(of(bank, bank_length), of(tx, tx_length)));
 }
 
 sct_outcome sct_raw_bank_totals(sct_site *site, const uint8_t *bank, size_t bank_length) {
-    return made_of(site, "bank_totals", of(bank, bank_length), none, none);
+    return made_of(site, "bank_totals", GIVEN(of(bank, bank_length)));
+}
+
+sct_outcome sct_raw_transfer_text_for(sct_site *site, const uint8_t *banks, size_t banks_length, const uint8_t *bank, size_t bank_length,
+                                      const uint8_t *tx, size_t tx_length) {
+    return made_of(site, "transfer_text_for", GIVEN(of(banks, banks_length), of(bank, bank_length), of(tx, tx_length)));
+}
+
+sct_outcome sct_raw_messages_text_for(sct_site *site, const uint8_t *banks, size_t banks_length, const uint8_t *bank, size_t bank_length,
+                                      const uint8_t *tx, size_t tx_length) {
+    return made_of(site, "messages_text_for", GIVEN(of(banks, banks_length), of(bank, bank_length), of(tx, tx_length)));
+}
+
+sct_outcome sct_raw_bank_totals_for(sct_site *site, const uint8_t *banks, size_t banks_length, const uint8_t *bank, size_t bank_length) {
+    return made_of(site, "bank_totals_for", GIVEN(of(banks, banks_length), of(bank, bank_length)));
+}
+
+sct_outcome sct_raw_report_for(sct_site *site, const uint8_t *banks, size_t banks_length, const uint8_t *bank, size_t bank_length,
+                               const uint8_t *day, size_t day_length, const uint8_t *list, size_t list_length) {
+    return made_of(site, "report_for",
+                   GIVEN(of(banks, banks_length), of(bank, bank_length), of(day, day_length), of(list, list_length)));
 }
 
 #define TEXT(name) \
     sct_outcome sct_raw_##name(sct_site *site) { \
-        return made_of(site, #name, none, none, none); \
+        return made_of(site, #name, none); \
     }
 TEXT(vector_text)
 TEXT(digests_text)
@@ -336,7 +367,7 @@ TEXT(contradictions_text)
 TEXT(changes)
 
 sct_outcome sct_raw_answer_end(sct_site *site) {
-    struct reply it = told(site, "answer_end", zero, none, none, none);
+    struct reply it = told(site, "answer_end", zero, none);
     if (it.ok) answers(site, it.text, 0);
     return outcome(it);
 }
@@ -365,7 +396,7 @@ sct_outcome sct_raw_why(sct_site *site, uint8_t *out, size_t room) {
     struct reply it;
     must(out != 0);
     if (site->private_is_full && is_out_of_memory()) return outcome(refused(SCT_MEMORY));
-    it = told(site, "why", one(MOST), none, none, none);
+    it = told(site, "why", one(MOST), none);
     if (it.ok && it.size <= room) memcpy(out, it.text, it.size);
     free(it.text);
     return outcome(it);
@@ -373,12 +404,11 @@ sct_outcome sct_raw_why(sct_site *site, uint8_t *out, size_t room) {
 
 /* Copies what the definitions have for a number. */
 static size_t of_code(const char *call, uint8_t code, uint8_t *out, size_t room) {
-    const struct text texts[] = {none, none, none};
     const struct numbers numbers = {code, MOST, 0};
     struct reply it;
     must(out != 0);
     pthread_mutex_lock(&lock);
-    it = asked(call, 0, numbers, texts);
+    it = asked(call, 0, numbers, none);
     pthread_mutex_unlock(&lock);
     if (it.size <= room) memcpy(out, it.text, it.size);
     free(it.text);

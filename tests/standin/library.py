@@ -7,12 +7,13 @@ sys.path.insert(0, str(pathlib.Path(__file__).resolve().parents[2]))
 from tests.embed.model import Handle
 
 FIELDS = ["ok", "code", "place", "length", "is_repeat", "number", "fresh", "repeats", "refused"]
-# the arguments of each call, of three numbers and three texts; the texts that a call copies are copied whole
+# the arguments of each call, of three numbers and four texts; the texts that a call copies are copied whole
 NUMBERS = {"open": 2, "restore": 2, "counts": 1, "entries": 3, "digest": 2, "journal_text": 1, "newest_text": 1,
            "why": 1, "code_name": 2, "code_text": 2}
-TEXTS = {"restore": 2, "take": 1, "take_lines": 1, "accept": 1, "cut": 1, "cut_above": 1,
-         "reading_text": 1, "report": 3,
-         "kept_text": 1, "closed_text": 1, "transfer_text": 2, "messages_text": 2, "bank_totals": 1}
+TEXTS = {"restore": 2, "take": 1, "take_as": 2, "take_lines": 1, "accept": 1, "cut": 1, "cut_above": 1,
+         "reading_text": 1, "report": 3, "kept_text": 1, "closed_text": 1, "transfer_text": 2, "messages_text": 2,
+         "bank_totals": 1,
+         "transfer_text_for": 3, "messages_text_for": 3, "bank_totals_for": 2, "report_for": 4}
 COUNTS = "cut_above"
 
 

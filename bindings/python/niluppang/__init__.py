@@ -1,9 +1,10 @@
 """Niluppang: the proved site of a clearing hub for SEPA Instant Credit Transfers, in a Python program."""
-from ._errors import Closed, DeltaRefused, LibraryError, MessageRefused, NiluppangError, OutOfMemory, Refused
+from ._errors import (Closed, DeltaRefused, LibraryError, MessageRefused, NiluppangError, NotYours, OutOfMemory,
+                      Refused, Transfer, Waits, Withheld)
 from ._library import library_version
-from ._site import Accepted, BytesSite, LinesTaken, Site, Taken, Transfer
+from ._site import Accepted, BytesSite, LinesTaken, Site, Taken
 from ._version import __version__
 
 __all__ = ["Accepted", "BytesSite", "Closed", "DeltaRefused", "LibraryError", "LinesTaken",
-           "MessageRefused", "NiluppangError",
-           "OutOfMemory", "Refused", "Site", "Taken", "Transfer", "__version__", "library_version"]
+           "MessageRefused", "NiluppangError", "NotYours", "OutOfMemory", "Refused", "Site", "Taken", "Transfer",
+           "Waits", "Withheld", "__version__", "library_version"]

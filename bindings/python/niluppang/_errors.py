@@ -1,10 +1,16 @@
 """The errors of a site. Each has the number, the place and the reason that the library reports, and the library's name
-of the number."""
-from typing import Dict, Tuple, Type
+of the number. An error may name a transfer."""
+from typing import Dict, NamedTuple, Optional, Tuple, Type
 
 # the name and the meaning of each number, which the library has; they are read when it is opened
 WORDS: Dict[int, Tuple[str, str]] = {}
 UNKNOWN = ("Unknown", "a number of a later version")
+
+
+class Transfer(NamedTuple):
+    """The name of a transfer: its originator bank (a BIC of 11 characters) and its identification."""
+    bank: str
+    tx: str
 
 
 class NiluppangError(Exception):
@@ -32,15 +38,36 @@ class NiluppangError(Exception):
 
 class Refused(NiluppangError, ValueError):
     """What came in is wrong: a message, a delta, a list, a vector or another argument. Numbers 31 to 38, 41 to 46, 48,
-    56, 72 and 73."""
+    56, 72, 73 and 79 to 83."""
 
 
 class MessageRefused(Refused):
-    """The object that `take` was given is not a message. Who sent it corrects it. Numbers 31 to 38, 46 and 56."""
+    """The object that `take` or `take_as` was given is not a message. Who sent it corrects it. Numbers 31 to 38, 46 and
+    56."""
 
 
 class DeltaRefused(Refused):
     """The delta that `accept` was given is not accepted. Numbers 41 to 45."""
+
+
+class NotYours(Refused):
+    """The bank of a question is none of the banks that ask. Number 79."""
+
+
+class Withheld(Refused):
+    """The message that `take_as` was given may not be sent in the name of the banks. Numbers 80 to 82, and 83 of
+    `Waits`."""
+
+
+class Waits(Withheld):
+    """No instruction on the transfer of the message is held yet. The message can be sent again when there is one.
+    Number 83."""
+
+    @property
+    def transfer(self) -> Optional[Transfer]:
+        """The transfer whose instruction is waited for. None if there was no memory for the reason."""
+        words = self.reason.split(" ", 2)
+        return Transfer(*words[1:]) if len(words) == 3 else None
 
 
 class OutOfMemory(NiluppangError, MemoryError):
@@ -56,12 +83,15 @@ class LibraryError(OSError):
 
 
 MEMORY, EMPTY = 65, 70
-INPUT = {*range(31, 39), *range(41, 47), 48, 56, 72, 73}
-OF_NUMBERS: Dict[int, Type[NiluppangError]] = {MEMORY: OutOfMemory, EMPTY: Closed}
-OF_CALLS: Dict[str, Type[NiluppangError]] = {"take": MessageRefused, "accept": DeltaRefused}
+OF_DELTAS = range(41, 46)  # 44 is a number of other calls too
+OF_NUMBERS: Dict[int, Type[NiluppangError]] = {
+    MEMORY: OutOfMemory, EMPTY: Closed, **dict.fromkeys((*range(31, 39), 46, 56), MessageRefused),
+    **dict.fromkeys((*OF_DELTAS, 48, 72, 73), Refused), 79: NotYours, **dict.fromkeys(range(80, 83), Withheld),
+    83: Waits}
 
 
 def error_of(call: str, number: int, place: int, reason: str) -> NiluppangError:
     """The error by which a call is refused."""
-    of_input = OF_CALLS.get(call, Refused) if number in INPUT else NiluppangError
-    return OF_NUMBERS.get(number, of_input)(number, place, reason)
+    if call == "accept" and number in OF_DELTAS:
+        return DeltaRefused(number, place, reason)
+    return OF_NUMBERS.get(number, NiluppangError)(number, place, reason)

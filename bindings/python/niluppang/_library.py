@@ -51,7 +51,8 @@ GROUP = [ctypes.c_uint16, ctypes.c_uint16]
 # of each call on a handle, without sct_raw_: the type of its result, and those of its arguments after the handle
 CALLS: Dict[str, List[object]] = {
     "open": [Outcome, *GROUP], "restore": [Outcome, *GROUP, *TEXT, *TEXT], "close": [None],
-    "take": [TakenOutcome, *TEXT], "take_lines": [LinesOutcome, *TEXT], "accept": [AcceptedOutcome, *TEXT],
+    "take": [TakenOutcome, *TEXT], "take_as": [TakenOutcome, *TEXT, *TEXT], "take_lines": [LinesOutcome, *TEXT],
+    "accept": [AcceptedOutcome, *TEXT],
     "counts": [Outcome, *COUNTS], "vector_text": [Outcome], "cut": [Outcome, *TEXT], "cut_above": [Outcome, *COUNTS],
     "entries": [Outcome, ctypes.c_uint16, ctypes.c_uint64, ctypes.c_uint64],
     "digest": [Outcome, ctypes.c_uint16, ctypes.c_uint64],
@@ -60,7 +61,9 @@ CALLS: Dict[str, List[object]] = {
     "evaluate": [Outcome], "archive_text": [Outcome], "status_text": [Outcome], "totals_text": [Outcome],
     "contradictions_text": [Outcome], "report": [Outcome, *TEXT, *TEXT, *TEXT], "kept_text": [Outcome, *TEXT],
     "closed_text": [Outcome, *TEXT], "transfer_text": [Outcome, *TEXT, *TEXT], "messages_text": [Outcome, *TEXT, *TEXT],
-    "bank_totals": [Outcome, *TEXT], "changes": [Outcome],
+    "bank_totals": [Outcome, *TEXT], "transfer_text_for": [Outcome, *TEXT, *TEXT, *TEXT],
+    "messages_text_for": [Outcome, *TEXT, *TEXT, *TEXT], "bank_totals_for": [Outcome, *TEXT, *TEXT],
+    "report_for": [Outcome, *TEXT, *TEXT, *TEXT, *TEXT], "changes": [Outcome],
     "answer": [Outcome, *ROOM], "answer_part": [Outcome, ctypes.c_size_t, *ROOM],
     "answer_end": [Outcome], "why": [Outcome, *ROOM]
 }

@@ -8,7 +8,7 @@ import warnings
 from dataclasses import dataclass
 from typing import Any, Callable, Generic, Iterable, Iterator, List, NamedTuple, Optional, Tuple, Type, TypeVar, Union
 
-from ._errors import EMPTY, Closed, Refused, error_of
+from ._errors import EMPTY, Closed, Refused, Transfer, error_of
 from ._library import Handle, library
 
 Text = TypeVar("Text", str, bytes)
@@ -43,12 +43,6 @@ class LinesTaken(Generic[Text]):
 class Accepted(NamedTuple):
     """What an accept came to: how many entries of the delta are new."""
     fresh: int
-
-
-class Transfer(NamedTuple):
-    """The name of a transfer: its originator bank (a BIC of 11 characters) and its identification."""
-    bank: str
-    tx: str
 
 
 # ---- what goes in
@@ -222,7 +216,7 @@ class BaseSite(Generic[Text]):
         state = "closed" if self._is_closed else "open"
         return f"<{type(self).__name__} {self._number} of {self._group}, {state}>"
 
-    # ---- what each call does. But for `_answered` and `_lines`, these need the lock
+    # ---- what each call does. But for `_taken`, `_answered` and `_lines`, these need the lock
 
     def _called(self, call: str, *texts: Given, plain: Tuple[Any, ...] = ()) -> Any:
         """What a call comes to, by plain arguments and by texts. When it returns, the memory of no text is lent any
@@ -254,6 +248,12 @@ class BaseSite(Generic[Text]):
         room: bytes = new_bytes(None, length)
         self._checked("answer", self._called("answer", plain=(room, length)))
         return type(self)._text(room)
+
+    def _taken(self, call: str, *texts: Given) -> Taken:
+        """What a call comes to that takes a message."""
+        with self._turn:
+            outcome = self._checked(call, self._called(call, *texts))
+        return Taken(outcome.is_repeat, None if outcome.is_repeat else outcome.number)
 
     def _answered(self, call: str, *texts: Given, plain: Tuple[Any, ...] = ()) -> Text:
         """The answer that a call makes."""
@@ -293,9 +293,18 @@ class BaseSite(Generic[Text]):
     def take(self, message: Given) -> Taken:
         """Takes the message that one JSON object is. If it is no repeat, it belongs into the journal, on one line,
         before it is acknowledged and before the next cut. Refusals: 31 to 38, 46, 56, 65."""
-        with self._turn:
-            outcome = self._checked("take", self._called("take", message))
-        return Taken(outcome.is_repeat, None if outcome.is_repeat else outcome.number)
+        return self._taken("take", message)
+
+    def take_as(self, banks: Given, message: Given) -> Taken:
+        """As `take`, if the message may be sent in the name of some banks: a text such as `BANKDEFF,BANQFRPP`, of 1 to
+        16. They are the banks for which a client stands.
+
+        The error is `Withheld` if the sender is none of them (80); if a pacs.008, camt.056 or pacs.028 is not of their
+        own transfers (81, with the place of the transaction); or if a pacs.002, pacs.004 or camt.029 is not on a
+        transfer to one of them (82). It is `Waits`, with the transfer, if no instruction on that is held yet (83): the
+        message can be sent again. Refusals: 31 to 38, 46, 56, 65, 73 (1: the banks), 80 to 83.
+        """
+        return self._taken("take_as", banks, message)
 
     def take_lines(self, text: Given) -> LinesTaken[Text]:
         """Takes the messages of a text, one JSON object a line. `journal` has those that are new.
@@ -448,6 +457,32 @@ class BaseSite(Generic[Text]):
     def bank_totals(self, bank: Given) -> Text:
         """The line of one bank in the totals text, also if all its numbers are 0. Refusals: 65, 73 (1)."""
         return self._answered("bank_totals", bank)
+
+    # ---- the same for banks, which see no transfer of others
+    #
+    # `banks` is a text as in `take_as`. A transfer is theirs if its originator bank is one of them, or the beneficiary
+    # bank of an instruction on it; without an instruction if one of them sent a message on it, or was sent one
+
+    def transfer_for(self, banks: Given, bank: Given, tx: Given) -> Text:
+        """The T, F and R lines of one transfer. One that is not theirs has the line of a transfer without messages.
+        Refusals: 65, 73 (1: the banks, 2: the bank, 3: the identification)."""
+        return self._answered("transfer_text_for", banks, bank, tx)
+
+    def messages_for(self, banks: Given, bank: Given, tx: Given) -> Text:
+        """The lines of the archive text that have the messages on one transfer, and none if it is not theirs. A recall
+        of others has those of its transactions alone that are on transfers of theirs. Refusals: 65, 73 (1, 2, 3)."""
+        return self._answered("messages_text_for", banks, bank, tx)
+
+    def bank_totals_for(self, banks: Given, bank: Given) -> Text:
+        """The line of one of the banks in the totals text. Refusals: 65, 73 (1, 2), 79."""
+        return self._answered("bank_totals_for", banks, bank)
+
+    def report_for(self, banks: Given, bank: Given, day: Given, rows: Given) -> Text:
+        """The report on a list of one of the banks for a settlement day. A row on a transfer that is not theirs is as
+        one on a transfer without messages. Refusals: 48, 65, 73 (1: the banks, 2: the bank, 3: the day), 79."""
+        return self._answered("report_for", banks, bank, day, rows)
+
+    # ---- what changed
 
     def changes(self) -> List[Transfer]:
         """The transfers whose lines may have changed since the call before. The first call begins the watch, and

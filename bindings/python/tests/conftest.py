@@ -30,17 +30,29 @@ def instruction(number: int = 1, **elements: Any) -> str:
     return json.dumps({**INSTRUCTION, "MsgId": f"M{number}", "TxId": f"T{number}", **elements}, ensure_ascii=False)
 
 
-def archived(number: int = 1, **elements: Any) -> str:
-    """The line of the archive text of an instruction: a bank has 11 characters, and keys ascend."""
-    message = json.loads(instruction(number, **elements))
-    banks = {key: message[key] + "XXX" for key in ("InstgAgt", "DbtrAgt", "CdtrAgt")}
+def line_of(message: Any) -> str:
+    """The line of the archive text of a message without a list: a bank has 11 characters, and keys ascend."""
+    banks = {key: message[key] + "XXX" for key in ("InstgAgt", "DbtrAgt", "CdtrAgt") if key in message}
     return json.dumps({**message, **banks}, ensure_ascii=False, separators=(",", ":"), sort_keys=True) + "\n"
+
+
+def archived(number: int = 1, **elements: Any) -> str:
+    """The line of the archive text of an instruction."""
+    return line_of(json.loads(instruction(number, **elements)))
 
 
 def recall(*transactions: Any) -> str:
     """A recall with a list of transactions."""
     head = {"MsgNmId": "camt.056", "MsgId": "K1", "CreDtTm": "2024-05-03T09:00:00Z", "InstgAgt": "BANKDEFF"}
     return json.dumps({**head, "TxInf": list(transactions)})
+
+
+def confirmation(number: int = 1, **elements: Any) -> str:
+    """The confirmation of the instruction with this number, by its beneficiary bank."""
+    return json.dumps({
+        "MsgNmId": "pacs.002", "MsgId": f"C{number}", "CreDtTm": "2024-05-02T10:00:02Z", "InstgAgt": "BANQFRPP",
+        "OrgnlMsgId": f"M{number}", "OrgnlMsgNmId": "pacs.008", "OrgnlTxId": f"T{number}", "TxSts": "ACCP",
+        "DbtrAgt": "BANKDEFF", **elements})
 
 
 def delta(origin: int, first: int, *numbers: int) -> str:

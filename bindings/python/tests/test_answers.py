@@ -7,7 +7,7 @@ import json
 import threading
 
 import pytest
-from conftest import Hooked, archived, bytes_in, delta, instruction
+from conftest import RECALLED, Hooked, archived, bytes_in, confirmation, delta, instruction, line_of, recall
 
 from niluppang import Accepted, BytesSite, Closed, LinesTaken, NiluppangError, Site, Taken, Transfer, _site
 
@@ -39,6 +39,64 @@ def test_one_transfer_and_one_bank(site):
         assert site.bank_totals(line.split("|")[0]) == line
     assert site.transfer("NOBODYXX", "T9") == "T|NOBODYXXXXX|T9|UNKNOWN\n"
     assert site.bank_totals("NOBODYXX") == "NOBODYXXXXX|0|0.00|0.00|0|0|0|0|0|0.00|0.00\n"
+
+
+# ---- for banks
+
+BOTH = recall(RECALLED, {**RECALLED, "OrgnlTxId": "T2"})
+
+
+@pytest.fixture(params=SITES)
+def shared(request):
+    """A site with a transfer T1 of BANKDEFF to BANQFRPP, one T2 to BANKITMM, and a recall of both. Its kind, too."""
+    with SITES[request.param](1, 1) as site:
+        for message in (instruction(1), confirmation(1), instruction(2, CdtrAgt="BANKITMM"), BOTH):
+            site.take(message)
+        yield site, request.param
+
+
+def test_messages_in_the_name_of_banks():
+    with Site(1, 2) as site:
+        assert site.take_as("BANKDEFF", instruction(1)) == Taken(False, 1)
+        assert site.take_as(b"BANQFRPP,BANKDEFFXXX", instruction(1).encode()) == Taken(True, None)
+        assert site.take_as(bytearray(b"BANQFRPP"), confirmation(1)) == (False, 2)
+        assert site.take_as(",".join(["BANKITMM"] * 15 + ["BANQFRPP"]), confirmation(1)).is_repeat
+        assert site.journal() == archived(1) + line_of(json.loads(confirmation(1))) and site.counts() == [2, 0]
+
+
+def test_transfers_of_theirs_and_of_others(shared):
+    site, kind = shared
+    lines = in_kind(kind, "T|BANKDEFFXXX|T1|ACCEPTED\nR|BANKDEFFXXX|T1|R1|OPEN\n")
+    for banks in ("BANKDEFF", b"BANQFRPP", "BANKITMM,BANQFRPPXXX"):
+        assert site.transfer_for(banks, "BANKDEFF", "T1") == site.answer() == lines
+    assert site.transfer_for("BANKITMM", "BANKDEFF", "T1") == in_kind(kind, "T|BANKDEFFXXX|T1|UNKNOWN\n")
+    assert site.transfer_for("BANQFRPP", "BANKDEFF", "T2") == in_kind(kind, "T|BANKDEFFXXX|T2|UNKNOWN\n")
+
+
+def test_messages_of_theirs_and_of_others(shared):
+    site, kind = shared
+    recalled = json.loads(BOTH)
+    head = {key: recalled[key] for key in recalled if key != "TxInf"}
+    on_it = archived(1) + line_of(json.loads(confirmation(1)))
+    assert site.messages_for("BANQFRPP", b"BANKDEFF", "T1") == in_kind(kind, line_of({**head, **RECALLED}) + on_it)
+    assert site.messages_for("BANKITMM", "BANKDEFF", "T2") == in_kind(
+        kind, line_of({**head, **RECALLED, "OrgnlTxId": "T2"}) + archived(2, CdtrAgt="BANKITMM"))
+    for banks in ("BANKDEFF", "BANKITMM,BANQFRPP"):
+        assert site.messages_for(banks, "BANKDEFF", "T1") == site.messages("BANKDEFF", "T1")
+    assert site.messages_for("BANKITMM", "BANKDEFF", "T1") == in_kind(kind, "")
+
+
+def test_totals_and_reports_of_theirs(shared):
+    site, kind = shared
+    totals = in_kind(kind, "BANQFRPPXXX|0|0.00|0.00|0|0|0|0|1|1.00|0.00\n")
+    assert site.bank_totals_for("BANKITMM,BANQFRPP", b"BANQFRPPXXX") == totals
+    rows = "DbtrAgt,TxId,Amt,Sts\nBANKDEFF,T1,1.00,ACCEPTED\nBANKDEFF,T2,1.00,PENDING\n"
+    head = "DbtrAgt,TxId,Result,ListAmt,ListSts,Amt,Sts\n"
+    mine, other = ("BANKDEFFXXX,T1,MATCHED,1.00,ACCEPTED,1.00,ACCEPTED\n",
+                   "BANKDEFFXXX,T2,MATCHED,1.00,PENDING,1.00,PENDING\n")
+    hidden = "BANKDEFFXXX,T2,ONLY_IN_LIST,1.00,PENDING,,UNKNOWN\n"
+    for banks, last in (("BANQFRPP", hidden), ("BANKITMM,BANQFRPP", other)):
+        assert site.report_for(banks, "BANQFRPP", "2024-05-02", rows) == in_kind(kind, head + mine + last)
 
 
 @pytest.mark.parametrize("kind", SITES)

@@ -10,9 +10,10 @@ import sys
 import threading
 
 import pytest
-from conftest import IS_STAND_IN, RECALLED, TOP, Hooked, delta, instruction, recall
+from conftest import IS_STAND_IN, RECALLED, TOP, Hooked, confirmation, delta, instruction, recall
 
-from niluppang import Closed, DeltaRefused, MessageRefused, NiluppangError, OutOfMemory, Refused, Site
+from niluppang import (Closed, DeltaRefused, MessageRefused, NiluppangError, NotYours, OutOfMemory, Refused, Site,
+                       Transfer, Waits, Withheld)
 from niluppang._errors import WORDS
 from niluppang._library import Outcome, TakenOutcome
 
@@ -58,7 +59,25 @@ OF_OTHERS = [
     ("kept_text", ["2024-5-02"], "BadArgument", 1, "73 1"), ("closed_text", [""], "BadArgument", 1, "73 1"),
     ("transfer", ["", "T1"], "BadArgument", 1, "73 1"), ("transfer", ["BANKDEFF", "T//1"], "BadArgument", 2, "73 2"),
     ("messages", ["BANK", "T1"], "BadArgument", 1, "73 1"), ("messages", ["BANKDEFF", ""], "BadArgument", 2, "73 2"),
-    ("bank_totals", ["X"], "BadArgument", 1, "73 1")]
+    ("bank_totals", ["X"], "BadArgument", 1, "73 1"),
+    ("take_as", ["BANKDEFF,", "{"], "BadArgument", 1, "73 1"),
+    ("transfer_for", ["", "BANKDEFF", "T1"], "BadArgument", 1, "73 1"),
+    ("transfer_for", ["BANKDEFF", "", "T1"], "BadArgument", 2, "73 2"),
+    ("messages_for", ["BANKDEFF", "BANKDEFF", "T//1"], "BadArgument", 3, "73 3"),
+    ("bank_totals_for", ["BANKDEFF", "X"], "BadArgument", 2, "73 2"),
+    ("report_for", ["BANKDEFF", "BANKDEFF", "today", HEADER], "BadArgument", 3, "73 3"),
+    ("report_for", ["BANKDEFF", "BANKDEFF", DAY, ""], "BadList", 1, "48 1")]
+# calls in the name of banks, each with its error
+FOR_BANKS = [
+    (NotYours, "bank_totals_for", ["BANKITMM", "BANKDEFF"], "NotYours", 0, "79"),
+    (NotYours, "report_for", ["BANKITMM", "BANKDEFF", DAY, ""], "NotYours", 0, "79"),
+    (MessageRefused, "take_as", ["BANKDEFF", "{"], "NotJson", 0, "31"),
+    (MessageRefused, "take_as", ["BANKITMM", recall(RECALLED, 7)], "BadTransactions", 2, "46 2"),
+    (Withheld, "take_as", ["BANKITMM", instruction(4)], "NotSender", 0, "80"),
+    (Withheld, "take_as", ["BANKDEFF", recall(RECALLED, {**RECALLED, "DbtrAgt": "BANKITMM"})], "NotOriginator", 2,
+     "81 2"),
+    (Withheld, "take_as", ["BANKITMM", confirmation(3, InstgAgt="BANKITMM")], "NotBeneficiary", 0, "82"),
+    (Waits, "take_as", ["BANQFRPP", confirmation(4)], "Waits", 0, "83 BANKDEFFXXX T4")]
 # the library is not called for what C has no place for
 NOT_CALLED = [("cut", [[-1]], "BadVector", 0, ""), ("cut", [[1 << 64]], "BadVector", 0, ""),
               ("cut_lines", [[0, -1]], "BadVector", 0, ""),
@@ -69,7 +88,7 @@ NOT_CALLED = [("cut", [[-1]], "BadVector", 0, ""), ("cut", [[1 << 64]], "BadVect
               ("digest", [1, -1], "BadArgument", 2, ""), ("digest", [1, 1 << 64], "BadArgument", 2, "")]
 REFUSED = [(MessageRefused, "take", *one) for one in OF_MESSAGES] + [(DeltaRefused, "accept", *one)
                                                                      for one in OF_DELTAS]
-REFUSED += [(Refused, *one) for one in OF_OTHERS + NOT_CALLED]
+REFUSED += [(Refused, *one) for one in OF_OTHERS + NOT_CALLED] + FOR_BANKS
 
 
 def table():
@@ -118,15 +137,32 @@ def test_each_number_is_met():
 
 
 def test_names_and_meanings_are_those_of_the_header():
-    assert len(table()) == 21 and WORDS == table()
+    assert len(table()) == 26 and WORDS == table()
 
 
 # ---- errors
 
 def test_kinds_of_errors():
     bases = {Refused: (NiluppangError, ValueError), MessageRefused: (Refused,), DeltaRefused: (Refused,),
-             OutOfMemory: (NiluppangError, MemoryError), Closed: (NiluppangError,), NiluppangError: (Exception,)}
+             OutOfMemory: (NiluppangError, MemoryError), Closed: (NiluppangError,), NiluppangError: (Exception,),
+             NotYours: (Refused,), Withheld: (Refused,), Waits: (Withheld,)}
     assert {kind: kind.__bases__ for kind in bases} == bases
+
+
+def test_transfer_that_is_waited_for(site):
+    for tx in ("T4", "T 4 B", "4"):
+        with pytest.raises(Waits) as raised:
+            site.take_as("BANQFRPP", confirmation(4, OrgnlTxId=tx))
+        for it in (raised.value, pickle.loads(pickle.dumps(raised.value)), copy.copy(raised.value)):
+            assert it.transfer == Transfer("BANKDEFFXXX", tx)
+    assert Waits(83).transfer is None and Waits(83, 0, "83").transfer is None
+
+
+def test_message_that_waited_is_taken(site):
+    with pytest.raises(Waits):
+        site.take_as("BANQFRPP", confirmation(4))
+    site.accept(delta(1, 2, 4))
+    assert site.take_as("BANQFRPP", confirmation(4)).number == 2
 
 
 @pytest.mark.parametrize("call, arguments, text", [

@@ -104,6 +104,8 @@ final class Library {
 
     static native TakenOutcome sct_raw_take(Pointer site, byte[] json, long length);
 
+    static native TakenOutcome sct_raw_take_as(Pointer site, byte[] banks, long banksLength, byte[] json, long length);
+
     static native LinesOutcome sct_raw_take_lines(Pointer site, byte[] text, long length);
 
     static native AcceptedOutcome sct_raw_accept(Pointer site, byte[] text, long length);
@@ -150,6 +152,17 @@ final class Library {
     static native Outcome sct_raw_messages_text(Pointer site, byte[] bank, long bankLength, byte[] tx, long txLength);
 
     static native Outcome sct_raw_bank_totals(Pointer site, byte[] bank, long bankLength);
+
+    static native Outcome sct_raw_transfer_text_for(Pointer site, byte[] banks, long banksLength, byte[] bank, long bankLength, byte[] tx,
+                                                    long txLength);
+
+    static native Outcome sct_raw_messages_text_for(Pointer site, byte[] banks, long banksLength, byte[] bank, long bankLength, byte[] tx,
+                                                    long txLength);
+
+    static native Outcome sct_raw_bank_totals_for(Pointer site, byte[] banks, long banksLength, byte[] bank, long bankLength);
+
+    static native Outcome sct_raw_report_for(Pointer site, byte[] banks, long banksLength, byte[] bank, long bankLength, byte[] day,
+                                             long dayLength, byte[] list, long listLength);
 
     static native Outcome sct_raw_changes(Pointer site);
 

@@ -1,5 +1,7 @@
 package niluppang;
 
+import java.util.Optional;
+
 /**
  * A call was refused, and changed nothing. {@link #number()} says why (docs/users/codes.md has a remedy), and {@link #place()} is the
  * line, the record, the transaction or the argument that is wrong, from 1, or 0 if the number has no place. {@link #reason()} is what the
@@ -8,6 +10,7 @@ package niluppang;
  */
 public final class NiluppangException extends RuntimeException {
     private static final long serialVersionUID = 2L;
+    private static final int WAITS = 83;
 
     private final int number;
     private final long place;
@@ -53,5 +56,11 @@ public final class NiluppangException extends RuntimeException {
 
     public String reason() {
         return reason;
+    }
+
+    /** The transfer whose instruction a message waits for, if the number is 83. Empty with every other number and reason. */
+    public Optional<Site.Transfer> waitsFor() {
+        String[] words = reason.split(" ", 3);
+        return number == WAITS && words.length == 3 ? Optional.of(new Site.Transfer(words[1], words[2])) : Optional.empty();
     }
 }

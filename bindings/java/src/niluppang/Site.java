@@ -120,13 +120,29 @@ public final class Site implements AutoCloseable {
 
     /** Takes the message that one JSON object is. Refusals: 31 to 38, 46, 56, 65, 70. */
     public synchronized Taken take(byte[] json) {
-        Library.TakenOutcome done = Library.sct_raw_take(handle, given(json), json.length);
-        check(done.ok, done.code, done.place);
-        return new Taken(done.isRepeat != 0, done.isRepeat != 0 ? 0 : done.number);
+        return taken(Library.sct_raw_take(handle, given(json), json.length));
     }
 
     public Taken take(String json) {
         return take(bytes(json));
+    }
+
+    /**
+     * As {@link #take}, if the message may be sent in the name of some banks: a text such as {@code BANKDEFF,BANQFRPP}, of 1 to 16. They
+     * are the banks for which a client stands.
+     *
+     * It is refused if the sender is none of them (80); if a pacs.008, camt.056 or pacs.028 is not of their own transfers (81, with the
+     * place of the transaction); or if a pacs.002, pacs.004 or camt.029 is not on a transfer to one of them (82). If no instruction on
+     * its transfer is held yet (83), it can be sent again, and {@link NiluppangException#waitsFor} has the transfer.
+     * Refusals: 31 to 38, 46, 56, 65, 70, 73 (1: the banks), 80 to 83.
+     */
+    public synchronized Taken takeAs(String banks, byte[] json) {
+        byte[] some = bytes(banks);
+        return taken(Library.sct_raw_take_as(handle, given(some), some.length, given(json), json.length));
+    }
+
+    public Taken takeAs(String banks, String json) {
+        return takeAs(banks, bytes(json));
     }
 
     /** Takes the messages of a text, one JSON object a line. {@link #journal} has those that are new. Refusals: 65, after which it can be
@@ -328,6 +344,50 @@ public final class Site implements AutoCloseable {
         return answered(() -> Library.sct_raw_bank_totals(handle, given(one), one.length));
     }
 
+    // ---- the same for banks, which see no transfer of others
+    //
+    // The banks are a text as that of takeAs. A transfer is theirs if its originator bank is one of them, or the beneficiary bank of an
+    // instruction on it; without an instruction if one of them sent a message on it, or was sent one
+
+    /** The T, F and R lines of one transfer. One that is not theirs has the line of a transfer without messages.
+     * Refusals: 65, 70, 73 (1: the banks, 2: the bank, 3: the identification). */
+    public byte[] transferFor(String banks, String bank, String tx) {
+        byte[] some = bytes(banks);
+        byte[] one = bytes(bank);
+        byte[] two = bytes(tx);
+        return answered(() -> Library.sct_raw_transfer_text_for(handle, given(some), some.length, given(one), one.length, given(two),
+            two.length));
+    }
+
+    /** The lines of the archive text that have the messages on one transfer, and none if it is not theirs. A recall of others has those of
+     * its transactions alone that are on transfers of theirs. Refusals: 65, 70, 73 (1, 2, 3). */
+    public byte[] messagesFor(String banks, String bank, String tx) {
+        byte[] some = bytes(banks);
+        byte[] one = bytes(bank);
+        byte[] two = bytes(tx);
+        return answered(() -> Library.sct_raw_messages_text_for(handle, given(some), some.length, given(one), one.length, given(two),
+            two.length));
+    }
+
+    /** The line of one of the banks in the totals text. Refusals: 65, 70, 73 (1, 2), 79. */
+    public byte[] bankTotalsFor(String banks, String bank) {
+        byte[] some = bytes(banks);
+        byte[] one = bytes(bank);
+        return answered(() -> Library.sct_raw_bank_totals_for(handle, given(some), some.length, given(one), one.length));
+    }
+
+    /** The report on a list of one of the banks for a settlement day. A row on a transfer that is not theirs is as one on a transfer without
+     * messages. Refusals: 48, 65, 70, 73 (1: the banks, 2: the bank, 3: the day), 79. */
+    public byte[] reportFor(String banks, String bank, String day, byte[] list) {
+        byte[] some = bytes(banks);
+        byte[] one = bytes(bank);
+        byte[] two = bytes(day);
+        return answered(() -> Library.sct_raw_report_for(handle, given(some), some.length, given(one), one.length, given(two), two.length,
+            given(list), list.length));
+    }
+
+    // ---- what changed
+
     /** The transfers whose lines may have changed since the call before. The first call begins the watch, and returns none.
      * Refusals: 65, 70. */
     public List<Transfer> changes() {
@@ -408,6 +468,11 @@ public final class Site implements AutoCloseable {
         if (ok == 0) {
             throw new NiluppangException(Byte.toUnsignedInt(code), place, why());
         }
+    }
+
+    private Taken taken(Library.TakenOutcome done) {
+        check(done.ok, done.code, done.place);
+        return new Taken(done.isRepeat != 0, done.isRepeat != 0 ? 0 : done.number);
     }
 
     /** Why the last call was refused. Nothing if there is no site, or no memory for the text. */

@@ -12,6 +12,7 @@ import java.util.ArrayList;
 import java.util.Arrays;
 import java.util.List;
 import java.util.Map;
+import java.util.Optional;
 import java.util.Set;
 import java.util.TreeMap;
 import java.util.TreeSet;
@@ -111,6 +112,13 @@ public final class SiteTest {
             + "\"DbtrAgt\":\"BANKDEFFXXX\",\"EndToEndId\":\"E1\",\"InstgAgt\":\"BANKDEFFXXX\",\"IntrBkSttlmAmt\":\"1.00\","
             + "\"IntrBkSttlmDt\":\"2024-05-02\",\"LclInstrm\":\"INST\",\"MsgId\":\"M" + number + "\",\"MsgNmId\":\"pacs.008\","
             + "\"SvcLvl\":\"SEPA\",\"TxId\":\"T" + number + "\"}\n";
+    }
+
+    /** The confirmation of the instruction with this number by a bank. */
+    private static String confirmation(int number, String bank) {
+        return "{\"MsgNmId\":\"pacs.002\",\"MsgId\":\"C" + number + "\",\"CreDtTm\":\"2024-05-02T10:00:02Z\",\"InstgAgt\":\"" + bank
+            + "\",\"OrgnlMsgId\":\"M" + number + "\",\"OrgnlMsgNmId\":\"pacs.008\",\"OrgnlTxId\":\"T" + number
+            + "\",\"TxSts\":\"ACCP\",\"DbtrAgt\":\"BANKDEFF\"}";
     }
 
     private static String recall(String transactions) {
@@ -216,7 +224,7 @@ public final class SiteTest {
         while (row.find()) {
             table.put(Integer.parseInt(row.group(1)), new String[] {row.group(2), row.group(3)});
         }
-        is("the header has 21 numbers", table.size() == 21);
+        is("the header has 26 numbers", table.size() == 26);
         for (int number = 0; number < 256; number++) {
             String[] words = table.getOrDefault(number, new String[] {"Unknown", "a number of a later version"});
             if (!Library.name(number).equals(words[0]) || !Library.meaning(number).equals(words[1])) {
@@ -283,11 +291,43 @@ public final class SiteTest {
         refused("a bank", 73, 1, "73 1", () -> site.messages("bank", "T1"));
         refused("an identification", 73, 2, "73 2", () -> site.messages("BANKDEFF", "T//1"));
         refused("a bank", 73, 1, "73 1", () -> site.bankTotals("X"));
+        questionsForBanks(site);
         for (long number : new long[] {-1, Long.MIN_VALUE}) {
             is("a number of messages below 0", failure(() -> site.journal(number)) instanceof IllegalArgumentException
                 && failure(() -> site.journalStream(number)) instanceof IllegalArgumentException
                 && failure(() -> site.newest(number)) instanceof IllegalArgumentException);
         }
+    }
+
+    private static void questionsForBanks(Site site) {
+        byte[] list = bytes("DbtrAgt,TxId,Amt,Sts\n");
+        refused("no banks", 73, 1, "73 1", () -> site.transferFor("BANKDEFF,", "", ""));
+        refused("a bank", 73, 2, "73 2", () -> site.transferFor("BANKDEFF", "bank", ""));
+        refused("an identification", 73, 3, "73 3", () -> site.messagesFor("BANKDEFF", "BANKDEFF", "T//1"));
+        refused("no banks", 73, 1, "73 1", () -> site.bankTotalsFor("", ""));
+        refused("a bank of others", 79, 0, "79", () -> site.bankTotalsFor("BANKITMM", "BANKDEFF"));
+        refused("a day", 73, 3, "73 3", () -> site.reportFor("BANKITMM", "BANKDEFF", "today", list));
+        refused("a report of others", 79, 0, "79", () -> site.reportFor("BANKITMM", "BANKDEFF", "2024-05-02", new byte[0]));
+        refused("a list", 48, 1, "48 1", () -> site.reportFor("BANKDEFF", "BANKDEFF", "2024-05-02", new byte[0]));
+    }
+
+    /** Messages that may not be sent in the name of banks. The site holds the instruction 3. */
+    private static void withheld(Site site) {
+        String several = recall(RECALLED + "," + RECALLED.replace("BANKDEFF", "BANKITMM"));
+        refused("no banks", 73, 1, "73 1", () -> site.takeAs("BANKDEFF,", "{"));
+        refused("no message", 31, 0, "31", () -> site.takeAs("BANKITMM", "{"));
+        refused("another sender", 80, 0, "80", () -> site.takeAs("BANKITMM", instruction(4)));
+        refused("another originator bank", 81, 2, "81 2", () -> site.takeAs("BANKDEFF", several));
+        refused("another beneficiary bank", 82, 0, "82", () -> site.takeAs("BANKITMM", confirmation(3, "BANKITMM")));
+        refused("an early answer", 83, 0, "83 BANKDEFFXXX T4", () -> site.takeAs("BANQFRPP", confirmation(4, "BANQFRPP")));
+        String spaced = confirmation(4, "BANQFRPP").replace("\"T4\"", "\"T 4 B\"");
+        for (String[] one : new String[][] {{confirmation(4, "BANQFRPP"), "T4"}, {spaced, "T 4 B"}}) {
+            is("the transfer that is waited for: " + one[1], failure(() -> site.takeAs("BANQFRPP", one[0])) instanceof NiluppangException waits
+                && waits.waitsFor().equals(Optional.of(new Site.Transfer("BANKDEFFXXX", one[1]))));
+        }
+        String wrong = instruction(4).replace("\"BANQFRPP\"", "\"B\"");
+        is("no other refusal waits", failure(() -> site.takeAs("BANKDEFF", wrong)) instanceof NiluppangException other
+            && other.reason().equals("36 CdtrAgt 1") && other.waitsFor().isEmpty());
     }
 
     /** Each call after the site was closed. */
@@ -299,7 +339,9 @@ public final class SiteTest {
             site::answer, site::answerEnd,
             () -> site.report("BANKDEFF", "2024-05-02", bytes("")), () -> site.keptText("2024-05-02"),
             () -> site.closedText("2024-05-02"), () -> site.transfer("BANKDEFF", "T1"),
-            () -> site.messages("BANKDEFF", "T1"), () -> site.bankTotals("BANKDEFF"));
+            () -> site.messages("BANKDEFF", "T1"), () -> site.bankTotals("BANKDEFF"), () -> site.takeAs("BANKDEFF", ""),
+            () -> site.transferFor("BANKDEFF", "BANKDEFF", "T1"), () -> site.messagesFor("BANKDEFF", "BANKDEFF", "T1"),
+            () -> site.bankTotalsFor("BANKDEFF", "BANKDEFF"), () -> site.reportFor("BANKDEFF", "BANKDEFF", "2024-05-02", bytes("")));
         for (Call call : calls) {
             refused("a site that is closed", 70, 0, "", call);
         }
@@ -315,6 +357,7 @@ public final class SiteTest {
             deltas(site);
             byte[] answer = site.statusText();
             questions(site);
+            withheld(site);
             same("the answer is as it was", site.answer(), answer);
             is("and what is held", Arrays.equals(site.counts(), new long[] {1, 1, 0}) && !site.isClosed());
             site.close();
@@ -366,6 +409,36 @@ public final class SiteTest {
         same("what is closed", site.closedText("2025-03-11"), closed.toString());
         same("nothing is closed on the day itself", site.closedText("2025-03-10"), "");
         is("all is kept then", lines(site.keptText("2025-03-10")).size() == archive.size());
+    }
+
+    /** What banks send, and what they are shown: BANKDEFF sends T1 to BANQFRPP and T2 to BANKITMM, and recalls both. */
+    private static void banks() {
+        try (Site site = new Site(1, 2)) {
+            is("a message in the name of a bank", site.takeAs("BANKDEFF", instruction(1)).number() == 1);
+            is("a repeat", site.takeAs("BANQFRPP,BANKDEFFXXX", bytes(instruction(1))).isRepeat());
+            is("the answer to it", site.takeAs("BANQFRPP", confirmation(1, "BANQFRPP")).number() == 2);
+            site.take(instruction(2).replace("BANQFRPP", "BANKITMM"));
+            site.take(recall(RECALLED + "," + RECALLED.replace("\"T1\"", "\"T2\"")));
+            String lines = "T|BANKDEFFXXX|T1|ACCEPTED\nR|BANKDEFFXXX|T1|R1|OPEN\n";
+            for (String banks : new String[] {"BANKDEFF", "BANQFRPP", "BANKITMM,BANQFRPPXXX"}) {
+                same("a transfer of " + banks, site.transferFor(banks, "BANKDEFF", "T1"), lines);
+            }
+            same("a transfer of others", site.transferFor("BANKITMM", "BANKDEFF", "T1"), "T|BANKDEFFXXX|T1|UNKNOWN\n");
+            same("messages of others", site.messagesFor("BANKITMM", "BANKDEFF", "T1"), "");
+            same("all messages of theirs", site.messagesFor("BANKDEFF", "BANKDEFF", "T1"), site.messages("BANKDEFF", "T1"));
+            String flat = "{\"Ccy\":\"EUR\",\"CreDtTm\":\"2024-05-03T09:00:00Z\",\"CxlId\":\"R1\",\"DbtrAgt\":\"BANKDEFFXXX\","
+                + "\"InstgAgt\":\"BANKDEFFXXX\",\"MsgId\":\"K1\",\"MsgNmId\":\"camt.056\",\"OrgnlIntrBkSttlmAmt\":\"1.00\","
+                + "\"OrgnlMsgId\":\"M1\",\"OrgnlMsgNmId\":\"pacs.008\",\"OrgnlTxId\":\"T2\",\"Rsn\":\"FRAD\"}\n";
+            same("a recall in part", site.messagesFor("BANKITMM", "BANKDEFF", "T2"),
+                flat + archived(2).replace("BANQFRPP", "BANKITMM"));
+            same("totals", site.bankTotalsFor("BANQFRPP", "BANQFRPP"), "BANQFRPPXXX|0|0.00|0.00|0|0|0|0|1|1.00|0.00\n");
+            byte[] list = bytes("DbtrAgt,TxId,Amt,Sts\nBANKDEFF,T1,1.00,ACCEPTED\nBANKDEFF,T2,1.00,PENDING\n");
+            String mine = "DbtrAgt,TxId,Result,ListAmt,ListSts,Amt,Sts\nBANKDEFFXXX,T1,MATCHED,1.00,ACCEPTED,1.00,ACCEPTED\n";
+            same("a report", site.reportFor("BANQFRPP", "BANQFRPP", "2024-05-02", list),
+                mine + "BANKDEFFXXX,T2,ONLY_IN_LIST,1.00,PENDING,,UNKNOWN\n");
+            same("a report for two banks", site.reportFor("BANKITMM,BANQFRPP", "BANQFRPP", "2024-05-02", list),
+                mine + "BANKDEFFXXX,T2,MATCHED,1.00,PENDING,1.00,PENDING\n");
+        }
     }
 
     /** The journal and arrivals of a site that takes messages and accepts others. */
@@ -625,6 +698,7 @@ public final class SiteTest {
         }
         numbers();
         answers(folder);
+        banks();
         arrivals();
         entries();
         digests();
