@@ -16,9 +16,9 @@ use Rattle.sct_embed.specs.declared.faults.EmbedFault.{EmbedFault}
 use Rattle.sct_embed.specs.declared.faults.EmbedFault.TheVariants as fault
 
 -- an answer for banks, if a text lists them: it is the first argument of each question
-abbrev pub answer_for : Option (List (List ℕ)) → (List (List ℕ) → Result (List ℕ) EmbedFault) → Result (List ℕ) EmbedFault
-answer_for None answer = Err (fault.BadArgument 1)
-answer_for (Some banks) answer = answer banks
+abbrev pub answer_for_list : Option (List (List ℕ)) → (List (List ℕ) → Result (List ℕ) EmbedFault) → Result (List ℕ) EmbedFault
+answer_for_list None answer = Err (fault.BadArgument 1)
+answer_for_list (Some banks) answer = answer banks
 
 -- ---- a transfer
 
@@ -31,12 +31,12 @@ transfer_named (Some bank) (Some tx) = Ok (record { debtor_agent = bank; tx = tx
 -- the lines of a transfer
 abbrev pub transfer_answer_for : List ℕ → List ℕ → List ℕ → MessageSet → Result (List ℕ) EmbedFault
 transfer_answer_for banks bank tx held =
-    answer_for (banks_in banks) (λ banks. answer_on (lines_for banks held) (transfer_named (bank_in bank) (identification_in tx)))
+    answer_for_list (banks_in banks) (λ banks. answer_on (lines_for banks held) (transfer_named (bank_in bank) (identification_in tx)))
 
 -- the messages on a transfer, as they are shown
 abbrev pub messages_answer_for : List ℕ → List ℕ → List ℕ → MessageSet → Result (List ℕ) EmbedFault
 messages_answer_for banks bank tx held =
-    answer_for (banks_in banks) (λ banks. answer_on (messages_for banks held) (transfer_named (bank_in bank) (identification_in tx)))
+    answer_for_list (banks_in banks) (λ banks. answer_on (messages_for banks held) (transfer_named (bank_in bank) (identification_in tx)))
 
 -- ---- a bank
 
@@ -46,7 +46,7 @@ line_of_theirs banks held None = Err (fault.BadArgument 2)
 line_of_theirs banks held (Some bank) = if is_one_of banks bank then Ok (bank_line_for banks held bank) else Err fault.NotYours
 
 abbrev pub bank_answer_for : List ℕ → List ℕ → MessageSet → Result (List ℕ) EmbedFault
-bank_answer_for banks bank held = answer_for (banks_in banks) (λ banks. line_of_theirs banks held (bank_in bank))
+bank_answer_for banks bank held = answer_for_list (banks_in banks) (λ banks. line_of_theirs banks held (bank_in bank))
 
 -- ---- the report
 
@@ -64,4 +64,4 @@ report_of_theirs banks held (Some bank) (Some day) rows =
 
 abbrev pub report_answer_for : List ℕ → List ℕ → List ℕ → List ℕ → MessageSet → Result (List ℕ) EmbedFault
 report_answer_for banks bank day list held =
-    answer_for (banks_in banks) (λ banks. report_of_theirs banks held (bank_in bank) (day_in day) (list_of list))
+    answer_for_list (banks_in banks) (λ banks. report_of_theirs banks held (bank_in bank) (day_in day) (list_of list))

@@ -17,7 +17,7 @@ use Rattle.sct_exchange.specs.Rounds.{File}
 use Rattle.sct_exchange.specs.Ways.{IsAmong}
 use Rattle.sct_journal.specs.Kept.{AreLines, recorded}
 use Rattle.sct_requests.specs.Questions.{answer_asked}
-use Rattle.sct_requests.specs.Grants.{answer_for, core_after_requests, core_requested, granted}
+use Rattle.sct_requests.specs.Grants.{answer_to_request, core_after_requests, core_requested, granted}
 use Rattle.sct_requests.specs.Steps.{AreKept, answer_to, brought, core_after, core_kept, is_delta_line, text_in}
 use Rattle.sct_requests.specs.declared.steps.Reply.{Reply}
 use Rattle.sct_requests.specs.declared.steps.Reply.TheVariants as answer
@@ -125,7 +125,7 @@ acknowledged_by other line = []
 abbrev pub acknowledged : Core → List (List ℕ) → List Draft
 acknowledged core [] = []
 acknowledged core (request ∷ requests) =
-    acknowledged_by (answer_for core request) (granted core request) ++ acknowledged (core_requested core request) requests
+    acknowledged_by (answer_to_request core request) (granted core request) ++ acknowledged (core_requested core request) requests
 
 -- After requests a site holds exactly what it held and what it acknowledged.
 abbrev pub KeepersHoldWhatTheyAnswer : Type 0

@@ -10,7 +10,7 @@ ghost use Rattle.sct_journal.specs.declared.error.JournalError.TheVariants as jo
 ghost use Rattle.sct_journal.specs.declared.front.Front.TheVariants as front;
 ghost use Rattle.sct_keeper.specs.Keepers.{EndsOpening, EndsRound, IsForeign, IsFull, IsKeeper, IsOfMemory, IsRecordedBeforeOrAfter, IsUntouched, answer_of_keeper, core_of_keeper, header, keeper_disk, watched_site_of};
 ghost use Rattle.sct_requests.specs.Questions.{Says, answer_asked, watched_after};
-ghost use Rattle.sct_requests.specs.Grants.{answers_for, brought_by, core_after_requests};
+ghost use Rattle.sct_requests.specs.Grants.{answers_to_requests, brought_by, core_after_requests};
 ghost use Rattle.sct_requests.specs.Steps.{core_kept};
 
 use crate::fault::KeeperError;
@@ -137,7 +137,7 @@ impl<D: Disk> Keeper<D> {
     pub fn round(&mut self, alloc: Global, text: &[u8]) -> Result<Vec<Reply>, KeeperError>
         requires keeper { IsKeeper D.Disk.seen D.Disk.may_leave D.Disk.is_usable D.Disk.is_clean self.old }
 
-        ensures answers { IfOk result (λ answers. answers.items ≡ answers_for (core_of_keeper self.old) (ended_lines text.now)) }
+        ensures answers { IfOk result (λ answers. answers.items ≡ answers_to_requests (core_of_keeper self.old) (ended_lines text.now)) }
         ensures site { OnOk result (core_of_keeper self.new ≡ core_after_requests (core_of_keeper self.old) (ended_lines text.now)) }
         ensures watched { (watched_site_of self.new).watched ≡ (watched_site_of self.old).watched }
         ensures keeper { OnOk result (IsKeeper D.Disk.seen D.Disk.may_leave D.Disk.is_usable D.Disk.is_clean self.new) }

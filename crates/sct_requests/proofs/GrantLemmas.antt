@@ -21,8 +21,8 @@ use Rattle.sct_rights.specs.declared.permission.Permission.TheVariants as permis
 use Rattle.sct_exchange.specs.Ways.{IsAmong}
 use Rattle.sct_rights.specs.Listing.{banks_in}
 use Rattle.sct_rights.specs.Sent.{is_allowed}
-use Rattle.sct_requests.specs.Grants.{answer_as, answer_by_verdict, answer_for, answer_to_sender, answers_for, as_parts, banks_text, brought_by, core_after_requests, core_requested, granted, granted_to, grants, is_as_line, is_permitted, is_plain, line_of_request, line_sent, parts_or_all}
-use Rattle.sct_requests.specs.Laws.{BanksSendInTheirName, IsInTheirName, RequestsAreGivenInOrder, WasSent}
+use Rattle.sct_requests.specs.Grants.{answer_as, answer_by_verdict, answer_to_request, answer_to_sender, answers_to_requests, as_parts, banks_text, brought_by, core_after_requests, core_requested, granted, granted_to, grants, is_as_line, is_permitted, is_plain, line_of_request, line_sent, parts_or_all}
+use Rattle.sct_requests.specs.Laws.{RequestsAreInTheirName, IsSentInTheirName, RequestsAreGivenInOrder, WasSent}
 use Rattle.sct_requests.specs.Words.{two_parts, two_parts_at}
 use Rattle.sct_requests.specs.Steps.{answer_to, answer_to_message, brings, brought, core_after, core_given, core_with_message, is_delta_line, is_question_line}
 use Rattle.sct_requests.proofs.StepLemmas.{after_brought, brings_nothing, brought_join, brought_lines}
@@ -78,7 +78,7 @@ module _ (core : Core) (request : List ℕ) (as_line : is_as_line request ≡ tr
 
   by_permission : (banks : List (List ℕ)) (message : Draft) → banks_in (banks_text request) ≡ Some banks → message_in its_line ≡ Ok message
       → granted core request ≡ its_line → is_plain its_line ≡ true → (p : Permission) → verdict banks (messages_of core.arrivals) message ≡ p → is_allowed p ≡ true
-      → IsInTheirName core request
+      → IsSentInTheirName core request
   by_permission banks message listed read given plain permission.Allowed may allowed = record {
     banks = banks;
     message = message;
@@ -91,22 +91,22 @@ module _ (core : Core) (request : List ℕ) (as_line : is_as_line request ≡ tr
   by_permission banks message listed read given plain other may allowed = absurd (false≢true allowed)
 
   by_reading : (banks : List (List ℕ)) → banks_in (banks_text request) ≡ Some banks → granted core request ≡ its_line → is_plain its_line ≡ true
-      → (read : Result Draft JsonFault) → message_in its_line ≡ read → is_permitted banks (messages_of core.arrivals) read ≡ true → IsInTheirName core request
+      → (read : Result Draft JsonFault) → message_in its_line ≡ read → is_permitted banks (messages_of core.arrivals) read ≡ true → IsSentInTheirName core request
   by_reading banks listed given plain (Ok message) read may =
       by_permission banks message listed read given plain (verdict banks (messages_of core.arrivals) message) refl may
   by_reading banks listed given plain (Err fault) read may = absurd (false≢true may)
 
-  by_banks : (banks : Option (List (List ℕ))) → banks_in (banks_text request) ≡ banks → IsInTheirName core request
+  by_banks : (banks : Option (List (List ℕ))) → banks_in (banks_text request) ≡ banks → IsSentInTheirName core request
   by_banks None e = absurd (not_empty (granted_as core request as_line ∙ ap (λ (b : Option (List (List ℕ))). granted_to core b its_line) e))
   by_banks (Some banks) e =
       let is = granted_as core request as_line ∙ ap (λ (b : Option (List (List ℕ))). granted_to core b its_line) e in
       elim (is_plain its_line && is_permitted banks (messages_of core.arrivals) (message_in its_line))
-      as (λ b. (is_plain its_line && is_permitted banks (messages_of core.arrivals) (message_in its_line)) ≡ b → granted core request ≡ cond b its_line [] → IsInTheirName core request) [
+      as (λ b. (is_plain its_line && is_permitted banks (messages_of core.arrivals) (message_in its_line)) ≡ b → granted core request ≡ cond b its_line [] → IsSentInTheirName core request) [
         | true ↦ λ may given. by_reading banks e given (and_parts _ _ may).0 (message_in its_line) refl (and_parts _ _ may).1
         | false ↦ λ may given. absurd (not_empty given)
       ] refl is
 
-  pub in_their_name : IsInTheirName core request
+  pub in_their_name : IsSentInTheirName core request
   in_their_name = by_banks (banks_in (banks_text request)) refl
 
 -- ---- each line that the journal has
@@ -144,7 +144,7 @@ each_sent (request ∷ requests) core line among =
       | false ↦ λ none later. sent_later core request requests line (each_sent requests (core_requested core request) line later)
     ]) refl among
 
-pub send_in_their_name : BanksSendInTheirName
+pub send_in_their_name : RequestsAreInTheirName
 send_in_their_name = record {
   allowed = in_their_name;
   others = λ core request as_line none. brings_nothing core (granted core request) none;
@@ -153,16 +153,16 @@ send_in_their_name = record {
 
 -- ---- laws of requests, one after another
 
-answers_join : (xs ys : List (List ℕ)) (core : Core) → answers_for core (xs ++ ys) ≡ answers_for core xs ++ answers_for (core_after core (grants core xs)) ys
+answers_join : (xs ys : List (List ℕ)) (core : Core) → answers_to_requests core (xs ++ ys) ≡ answers_to_requests core xs ++ answers_to_requests (core_after core (grants core xs)) ys
 answers_join [] ys core = refl
-answers_join (x ∷ xs) ys core = ap (λ (l : List Reply). answer_for core x ∷ l) (answers_join xs ys (core_given core (granted core x)))
+answers_join (x ∷ xs) ys core = ap (λ (l : List Reply). answer_to_request core x ∷ l) (answers_join xs ys (core_given core (granted core x)))
 
 pub granted_plain : (core : Core) (request : List ℕ) → is_as_line request ≡ false → granted core request ≡ request
 unfolding granted
 granted_plain core request e = rw e refl
 
-answered_plain : (core : Core) (request : List ℕ) → is_as_line request ≡ false → answer_for core request ≡ answer_to core request
-unfolding answer_for
+answered_plain : (core : Core) (request : List ℕ) → is_as_line request ≡ false → answer_to_request core request ≡ answer_to core request
+unfolding answer_to_request
 answered_plain core request e = rw e refl
 
 -- what comes after a part of a line is a line
@@ -283,10 +283,10 @@ IsUntaken other = ⊥
 
 abbrev pub IsAnsweredSo : Core → List ℕ → Type 0
 IsAnsweredSo core request =
-    (answer_for core request ≡ answer_to core (granted core request)) ⊎ ((granted core request ≡ []) × IsUntaken (answer_for core request))
+    (answer_to_request core request ≡ answer_to core (granted core request)) ⊎ ((granted core request ≡ []) × IsUntaken (answer_to_request core request))
 
-answered_as : (core : Core) (request : List ℕ) → is_as_line request ≡ true → answer_for core request ≡ answer_as core (banks_in (banks_text request)) (line_sent request)
-unfolding answer_for
+answered_as : (core : Core) (request : List ℕ) → is_as_line request ≡ true → answer_to_request core request ≡ answer_as core (banks_in (banks_text request)) (line_sent request)
+unfolding answer_to_request
 answered_as core request as_line = rw as_line refl
 
 plain_answered : (core : Core) (line : List ℕ) → is_plain line ≡ true → answer_to core line ≡ answer_to_message core (message_in line)
@@ -299,14 +299,14 @@ module _ (core : Core) (request : List ℕ) (as_line : is_as_line request ≡ tr
   abbrev sent : List ℕ
   sent = line_sent request
 
-  untaken : (reply : Reply) → granted core request ≡ [] → answer_for core request ≡ reply → IsUntaken reply → IsAnsweredSo core request
+  untaken : (reply : Reply) → granted core request ≡ [] → answer_to_request core request ≡ reply → IsUntaken reply → IsAnsweredSo core request
   untaken reply none is said = inr (none, subst IsUntaken (sym is) said)
 
   module _ (banks : List (List ℕ)) (listed : banks_in (banks_text request) ≡ Some banks) where
     granted_some : granted core request ≡ granted_to core (Some banks) sent
     granted_some = granted_as core request as_line ∙ ap (λ (b : Option (List (List ℕ))). granted_to core b sent) listed
 
-    answered_some : answer_for core request ≡ answer_as core (Some banks) sent
+    answered_some : answer_to_request core request ≡ answer_as core (Some banks) sent
     answered_some = answered_as core request as_line ∙ ap (λ (b : Option (List (List ℕ))). answer_as core b sent) listed
 
     how_unless_plain : is_plain sent ≡ false → IsAnsweredSo core request
@@ -316,7 +316,7 @@ module _ (core : Core) (request : List ℕ) (as_line : is_as_line request ≡ tr
         (answered_some ∙ ap (λ (b : Bool). cond b (answer_to_sender core banks (message_in sent)) (answer.Unread NotJson)) plain) tt
 
     module _ (plain : is_plain sent ≡ true) where
-      answered_plainly : answer_for core request ≡ answer_to_sender core banks (message_in sent)
+      answered_plainly : answer_to_request core request ≡ answer_to_sender core banks (message_in sent)
       answered_plainly = answered_some ∙ ap (λ (b : Bool). cond b (answer_to_sender core banks (message_in sent)) (answer.Unread NotJson)) plain
 
       not_permitted : is_permitted banks (messages_of core.arrivals) (message_in sent) ≡ false → granted core request ≡ []
@@ -369,10 +369,10 @@ answered_so core request =
 untaken_took : (reply : Reply) (took : Took) → reply ≡ answer.Took took → IsUntaken reply → ⊥
 untaken_took reply took is said = subst IsUntaken is said
 
-took_so : (core : Core) (request : List ℕ) (took : Took) → answer_for core request ≡ answer.Took took → answer_to core (granted core request) ≡ answer.Took took
+took_so : (core : Core) (request : List ℕ) (took : Took) → answer_to_request core request ≡ answer.Took took → answer_to core (granted core request) ≡ answer.Took took
 took_so core request took told = elim (answered_so core request) [
   | inl same ↦ sym same ∙ told
-  | inr left ↦ absurd (untaken_took (answer_for core request) took told left.1)
+  | inr left ↦ absurd (untaken_took (answer_to_request core request) took told left.1)
 ]
 
 pub given_in_order : RequestsAreGivenInOrder

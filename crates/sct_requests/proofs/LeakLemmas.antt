@@ -14,7 +14,7 @@ use Rattle.sct_rights.specs.Listing.{banks_in}
 use Rattle.sct_rights.specs.Rights.{is_one_of}
 use Rattle.sct_rights.specs.Shown.{bank_line_for, lines_for, messages_for}
 use Rattle.sct_rights.proofs.LeakLemmas.{nothing_leaks}
-use Rattle.sct_embed.specs.ByBanks.{answer_for, bank_answer_for, line_of_theirs, messages_answer_for, report_answer_for, report_of_theirs, report_on_theirs, transfer_answer_for, transfer_named}
+use Rattle.sct_embed.specs.ByBanks.{answer_for_list, bank_answer_for, line_of_theirs, messages_answer_for, report_answer_for, report_of_theirs, report_on_theirs, transfer_answer_for, transfer_named}
 use Rattle.sct_embed.specs.Questions.{answer_on, bank_in, day_in, identification_in}
 use Rattle.sct_embed.specs.declared.faults.EmbedFault.{EmbedFault}
 use Rattle.sct_embed.specs.declared.faults.EmbedFault.TheVariants as embedded
@@ -65,7 +65,7 @@ module _ (banks : List (List ℕ)) (one other : MessageSet) (alike : AreAlikeFor
 module _ (text : List ℕ) (one other : MessageSet) (alike : AreAlikeForList text one other) where
   answered_for : (answer : MessageSet → List (List ℕ) → Result (List ℕ) EmbedFault)
       → ((banks : List (List ℕ)) → AreAlikeFor banks one other → answer one banks ≡ answer other banks)
-      → (o : Option (List (List ℕ))) → banks_in text ≡ o → answer_for o (answer one) ≡ answer_for o (answer other)
+      → (o : Option (List (List ℕ))) → banks_in text ≡ o → answer_for_list o (answer one) ≡ answer_for_list o (answer other)
   answered_for answer same None none = refl
   answered_for answer same (Some banks) listed = same banks (alike banks listed)
 

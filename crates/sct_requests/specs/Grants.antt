@@ -95,10 +95,10 @@ answer_as core None line = answer.WrongBanks
 answer_as core (Some banks) line = if is_plain line then answer_to_sender core banks (message_in line) else answer.Unread NotJson
 
 -- the answer to a request: one in the name of banks, or another
-unfoldable pub answer_for : Core → List ℕ → Reply
-answer_for core request = if is_as_line request then answer_as core (banks_in (banks_text request)) (line_sent request) else answer_to core request
+unfoldable pub answer_to_request : Core → List ℕ → Reply
+answer_to_request core request = if is_as_line request then answer_as core (banks_in (banks_text request)) (line_sent request) else answer_to core request
 
 -- the answers to requests, each by what the site holds then
-abbrev pub answers_for : Core → List (List ℕ) → List Reply
-answers_for core [] = []
-answers_for core (request ∷ requests) = answer_for core request ∷ answers_for (core_requested core request) requests
+abbrev pub answers_to_requests : Core → List (List ℕ) → List Reply
+answers_to_requests core [] = []
+answers_to_requests core (request ∷ requests) = answer_to_request core request ∷ answers_to_requests (core_requested core request) requests

@@ -3,7 +3,7 @@ ghost use Rattle.std.specs.Prelude.{◌≡◌, Some, true, IfOk, OnOk};
 ghost use Rattle.sct_journal.specs.Kept.{IsLine};
 ghost use Rattle.sct_rights.specs.Listing.{banks_in};
 ghost use Rattle.sct_json.specs.Reading.{message_in};
-ghost use Rattle.sct_requests.specs.Grants.{answer_as, answer_for, answer_to_sender, as_parts, banks_text, core_requested, granted_to, is_as_line, is_plain, line_of_request, line_sent};
+ghost use Rattle.sct_requests.specs.Grants.{answer_as, answer_to_request, answer_to_sender, as_parts, banks_text, core_requested, granted_to, is_as_line, is_plain, line_of_request, line_sent};
 ghost use Rattle.sct_requests.specs.Steps.{core_given};
 
 use crate::steps::{Reply, give, is_delta_line, is_question_line};
@@ -90,14 +90,14 @@ fn give_as(alloc: Global, site: &mut EmbeddedSite, request: &[u8]) -> Result<Rep
 }
 
 /// The site is given a request: one in the name of banks, or another line.
-#[tactic(auto, unfolding(crate::specs::Grants::granted, crate::specs::Grants::answer_for))]
+#[tactic(auto, unfolding(crate::specs::Grants::granted, crate::specs::Grants::answer_to_request))]
 pub(crate) fn give_request(
     alloc: Global,
     site: &mut EmbeddedSite,
     request: &[u8],
 ) -> Result<Reply, AllocError>
     ensures core { OnOk result (site.new.core ≡ core_requested site.old.core request.now) }
-    ensures answer { IfOk result (λ answer. answer ≡ answer_for site.old.core request.now) }
+    ensures answer { IfOk result (λ answer. answer ≡ answer_to_request site.old.core request.now) }
     ensures watched { site.new.watched ≡ site.old.watched }
 {
     if is_as_line(request) {

@@ -1,10 +1,10 @@
 //! Laws of requests. Each law is the contract of a function with an empty body.
 
-ghost use Rattle.sct_requests.specs.Laws.{BanksSendInTheirName, NothingLeaksToBanks, RequestsAreGivenInOrder};
+ghost use Rattle.sct_requests.specs.Laws.{RequestsAreInTheirName, NothingLeaksToBanks, RequestsAreGivenInOrder};
 
 /// Each entry that a request in the name of banks brings is a message that may be sent in their name. Nothing else happens.
-pub fn banks_send_in_their_name()
-    ensures { BanksSendInTheirName }
+pub fn requests_are_in_their_name()
+    ensures { RequestsAreInTheirName }
 {}
 
 /// Requests in parts are what they are together, and the journal keeps the lines that the site was given.

@@ -4,7 +4,7 @@ ghost use Rattle.sct_delta.specs.DeltaText.{delta_in};
 ghost use Rattle.sct_exchange.specs.Rounds.{refusal_of};
 ghost use Rattle.sct_journal.specs.Kept.{IsLine, ended_lines, kept};
 ghost use Rattle.sct_json.specs.Reading.{message_in};
-ghost use Rattle.sct_requests.specs.Grants.{answer_for, answers_for, brought_by, core_after_requests, core_requested, granted};
+ghost use Rattle.sct_requests.specs.Grants.{answer_to_request, answers_to_requests, brought_by, core_after_requests, core_requested, granted};
 ghost use Rattle.sct_requests.specs.Steps.{answer_by, answer_to, answer_to_message, brings, core_after, core_given, core_offered, core_with_message, fresh_in_file, is_delta_line, is_question_line, text_in, with_feeds};
 
 use crate::grants::{give_request, line_of_request};
@@ -121,7 +121,7 @@ fn give_and_see(
     request: &[u8],
 ) -> Result<(Reply, bool), AllocError>
     ensures core { OnOk result (site.new.core ≡ core_requested site.old.core request.now) }
-    ensures answer { IfOk result (λ given. given.0 ≡ answer_for site.old.core request.now) }
+    ensures answer { IfOk result (λ given. given.0 ≡ answer_to_request site.old.core request.now) }
     ensures brings { IfOk result (λ given. given.1 ≡ brings site.old.core (granted site.old.core request.now)) }
     ensures watched { site.new.watched ≡ site.old.watched }
 {
@@ -166,7 +166,7 @@ pub struct Given {
 /// the line alone. The error is that it is out of memory; requests before may be taken.
 pub fn give_all(alloc: Global, site: &mut EmbeddedSite, text: &[u8]) -> Result<Given, AllocError>
     ensures core { OnOk result (site.new.core ≡ core_after_requests site.old.core (ended_lines text.now)) }
-    ensures answers { IfOk result (λ given. given.answers.items ≡ answers_for site.old.core (ended_lines text.now)) }
+    ensures answers { IfOk result (λ given. given.answers.items ≡ answers_to_requests site.old.core (ended_lines text.now)) }
     ensures brought { IfOk result (λ given. given.brought ≡ brought_by site.old.core (ended_lines text.now)) }
     ensures watched { site.new.watched ≡ site.old.watched }
 {

@@ -7,7 +7,7 @@ use Rattle.sct_streams.proofs.StreamLemmas.{appends_on, prefix_front, prefix_on}
 use Rattle.sct_site.specs.Cores.{Core}
 use Rattle.sct_requests.specs.Questions.{answer_asked, watched_after, watched_site_given}
 use Rattle.sct_requests.specs.WatchedSites.{WatchedSite}
-use Rattle.sct_requests.specs.Grants.{answer_for, answers_for, core_after_requests, core_requested}
+use Rattle.sct_requests.specs.Grants.{answer_to_request, answers_to_requests, core_after_requests, core_requested}
 use Rattle.sct_requests.specs.Steps.{is_question_line}
 use Rattle.sct_serve.specs.Replies.{question_reply, replies_to, reply_line, reply_to, watched_site_after}
 use Rattle.sct_serve.specs.Serving.{HasNoQuestion}
@@ -39,26 +39,26 @@ quiet_given : (s : WatchedSite) (line : List ℕ) → is_question_line line ≡ 
 unfolding watched_site_given
 quiet_given s line quiet = ap (λ (b : Bool). record { core = core_requested s.core line; watched = cond b (watched_after s (drop 2 line)) s.watched }) quiet
 
-quiet_reply : (s : WatchedSite) (line : List ℕ) → is_question_line line ≡ false → reply_to s line ≡ reply_line (answer_for s.core line)
+quiet_reply : (s : WatchedSite) (line : List ℕ) → is_question_line line ≡ false → reply_to s line ≡ reply_line (answer_to_request s.core line)
 unfolding reply_to
-quiet_reply s line quiet = ap (λ (b : Bool). cond b (question_reply (answer_asked s (drop 2 line))) (reply_line (answer_for s.core line))) quiet
+quiet_reply s line quiet = ap (λ (b : Bool). cond b (question_reply (answer_asked s (drop 2 line))) (reply_line (answer_to_request s.core line))) quiet
 
 pub quiet_site : (lines : List (List ℕ)) (s : WatchedSite) → HasNoQuestion lines → watched_site_after s lines ≡ with_core s (core_after_requests s.core lines)
 quiet_site [] s none = refl
 quiet_site (x ∷ xs) s none =
     ap (λ (t : WatchedSite). watched_site_after t xs) (quiet_given s x none.0) ∙ quiet_site xs (with_core s (core_requested s.core x)) none.1
 
-pub quiet_replies : (lines : List (List ℕ)) (s : WatchedSite) → HasNoQuestion lines → replies_to s lines ≡ flat_map reply_line (answers_for s.core lines)
+pub quiet_replies : (lines : List (List ℕ)) (s : WatchedSite) → HasNoQuestion lines → replies_to s lines ≡ flat_map reply_line (answers_to_requests s.core lines)
 quiet_replies [] s none = refl
 quiet_replies (x ∷ xs) s none =
     (λ i. quiet_reply s x none.0 i ++ replies_to (quiet_given s x none.0 i) xs)
-    ∙ ap (λ (l : List ℕ). reply_line (answer_for s.core x) ++ l) (quiet_replies xs (with_core s (core_requested s.core x)) none.1)
+    ∙ ap (λ (l : List ℕ). reply_line (answer_to_request s.core x) ++ l) (quiet_replies xs (with_core s (core_requested s.core x)) none.1)
 
 -- ---- a question
 
 pub question_reply_is : (s : WatchedSite) (line : List ℕ) → is_question_line line ≡ true → reply_to s line ≡ question_reply (answer_asked s (drop 2 line))
 unfolding reply_to
-question_reply_is s line told = ap (λ (b : Bool). cond b (question_reply (answer_asked s (drop 2 line))) (reply_line (answer_for s.core line))) told
+question_reply_is s line told = ap (λ (b : Bool). cond b (question_reply (answer_asked s (drop 2 line))) (reply_line (answer_to_request s.core line))) told
 
 pub question_site : (s : WatchedSite) (line : List ℕ) → is_question_line line ≡ true → watched_site_given s line ≡ record { core = core_requested s.core line; watched = watched_after s (drop 2 line) }
 unfolding watched_site_given

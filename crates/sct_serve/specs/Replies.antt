@@ -10,7 +10,7 @@ use Rattle.sct_rights.specs.declared.permission.Permission.TheVariants as permis
 use Rattle.sct_embed.specs.Faults.{embed_fault_number, embed_fault_place}
 use Rattle.sct_requests.specs.Questions.{answer_asked, watched_site_given}
 use Rattle.sct_requests.specs.WatchedSites.{WatchedSite}
-use Rattle.sct_requests.specs.Grants.{answer_for}
+use Rattle.sct_requests.specs.Grants.{answer_to_request}
 use Rattle.sct_requests.specs.Steps.{is_question_line}
 use Rattle.sct_requests.specs.declared.steps.Reply.{Reply}
 use Rattle.sct_requests.specs.declared.steps.Reply.TheVariants as answer
@@ -24,12 +24,12 @@ took_text (took.Taken n) = codes "TAKEN " ++ decimal n
 took_text took.Repeat = codes "REPEAT"
 
 -- why a message in the name of banks is not taken: it may not be sent, or it waits for an instruction on its transfer
-unfoldable pub withheld_text : Permission → List ℕ
-withheld_text permission.Allowed = []
-withheld_text permission.NotSender = codes "FORBIDDEN sender"
-withheld_text (permission.NotOriginator place) = codes "FORBIDDEN originator " ++ decimal place
-withheld_text permission.NotBeneficiary = codes "FORBIDDEN beneficiary"
-withheld_text (permission.Waits transfer) = codes "WAITING " ++ transfer.debtor_agent ++ codes " " ++ transfer.tx
+unfoldable pub withheld_reply : Permission → List ℕ
+withheld_reply permission.Allowed = []
+withheld_reply permission.NotSender = codes "FORBIDDEN sender"
+withheld_reply (permission.NotOriginator place) = codes "FORBIDDEN originator " ++ decimal place
+withheld_reply permission.NotBeneficiary = codes "FORBIDDEN beneficiary"
+withheld_reply (permission.Waits transfer) = codes "WAITING " ++ transfer.debtor_agent ++ codes " " ++ transfer.tx
 
 -- the text of a reply
 unfoldable pub reply_text : Reply → List ℕ
@@ -40,7 +40,7 @@ reply_text (answer.Unread reason) = codes "REFUSED " ++ json_fault_text reason
 reply_text (answer.Accepted fresh) = codes "ACCEPTED " ++ decimal fresh
 reply_text (answer.Refused reason) = codes "REFUSED " ++ refusal_text reason
 reply_text answer.WrongBanks = codes "REFUSED 73 1"
-reply_text (answer.Withheld reason) = withheld_text reason
+reply_text (answer.Withheld reason) = withheld_reply reason
 
 unfoldable pub reply_line : Reply → List ℕ
 reply_line answer = reply_text answer ++ codes "\n"
@@ -66,7 +66,7 @@ question_reply (Err reason) = codes "REFUSED " ++ question_refusal reason ++ cod
 -- the reply to a line, with its line feed
 unfoldable pub reply_to : WatchedSite → List ℕ → List ℕ
 reply_to site line =
-    if is_question_line line then question_reply (answer_asked site (drop 2 line)) else reply_line (answer_for site.core line)
+    if is_question_line line then question_reply (answer_asked site (drop 2 line)) else reply_line (answer_to_request site.core line)
 
 -- the replies to lines, each on the site as it is then
 abbrev pub replies_to : WatchedSite → List (List ℕ) → List ℕ

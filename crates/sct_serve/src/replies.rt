@@ -1,7 +1,7 @@
 //! The texts of replies.
 ghost use Rattle.std.specs.Prelude.{◌≡◌, ◌++◌, IfOk, Err, codes, flat_map, string_bytes};
 ghost use Rattle.std.specs.Fmt.{decimal};
-ghost use Rattle.sct_serve.specs.Replies.{place_text, question_refusal, question_reply, reply_line, reply_text, took_text, withheld_text};
+ghost use Rattle.sct_serve.specs.Replies.{place_text, question_refusal, question_reply, reply_line, reply_text, took_text, withheld_reply};
 
 use sct_exchange::push_refusal;
 use sct_lines::push_json_fault;
@@ -33,9 +33,9 @@ fn push_waits(text: &mut String, transfer: &TransferKey) -> Result<(), AllocErro
 }
 
 // Appends why a message in the name of banks is not taken.
-#[tactic(auto, unfolding(crate::specs::Replies::withheld_text))]
+#[tactic(auto, unfolding(crate::specs::Replies::withheld_reply))]
 fn push_withheld(text: &mut String, permission: &Permission) -> Result<(), AllocError>
-    ensures { IfOk result (λ _. string_bytes text.new ≡ string_bytes text.old ++ withheld_text permission.now) }
+    ensures { IfOk result (λ _. string_bytes text.new ≡ string_bytes text.old ++ withheld_reply permission.now) }
 {
     match permission {
         Permission::Allowed => Ok(()),

@@ -2,7 +2,7 @@
 use Rattle.std.proofs.Common.{◌≡◌, ◌∙◌, ◌++◌, ◌∷◌, [], List, ℕ, cond, ap, sym, append_assoc}
 use Rattle.sct_journal.specs.Kept.{ended_lines}
 use Rattle.sct_site.specs.Cores.{Core}
-use Rattle.sct_requests.specs.Grants.{answer_for, answers_for, brought_by, core_after_requests, core_requested, granted, line_of_request}
+use Rattle.sct_requests.specs.Grants.{answer_to_request, answers_to_requests, brought_by, core_after_requests, core_requested, granted, line_of_request}
 use Rattle.sct_requests.specs.Steps.{brings}
 use Rattle.sct_requests.specs.declared.steps.Reply.{Reply}
 use Rattle.sct_requests.proofs.GrantLemmas.{kept_alike}
@@ -23,10 +23,10 @@ loop-request-preserved c =
     record {
       core = ap (λ (x : Core). core_after_requests x rest) given ∙ ap (core_after_requests before) (sym next) ∙ c.loop-request.invariant.core;
       told =
-          ap (λ (l : List Reply). l ++ answers_for after rest) (c.in_ok-push.ensures.items ∙ ap (λ (a : Reply). answers ++ a ∷ []) c.in_ok-answer.ensures.answer)
-          ∙ append_assoc answers (answer_for before request ∷ []) (answers_for after rest)
-          ∙ ap (λ (x : Core). answers ++ answer_for before request ∷ answers_for x rest) given
-          ∙ ap (λ (l : List (List ℕ)). answers ++ answers_for before l) (sym next)
+          ap (λ (l : List Reply). l ++ answers_to_requests after rest) (c.in_ok-push.ensures.items ∙ ap (λ (a : Reply). answers ++ a ∷ []) c.in_ok-answer.ensures.answer)
+          ∙ append_assoc answers (answer_to_request before request ∷ []) (answers_to_requests after rest)
+          ∙ ap (λ (x : Core). answers ++ answer_to_request before request ∷ answers_to_requests x rest) given
+          ∙ ap (λ (l : List (List ℕ)). answers ++ answers_to_requests before l) (sym next)
           ∙ c.loop-request.invariant.told;
       kept =
           ap (λ (l : List (List ℕ)). l ++ brought_by after rest)
