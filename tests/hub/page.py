@@ -15,6 +15,7 @@ import tempfile
 import threading
 import time
 import urllib.request
+from bench.generate.samples import confirmation, line
 from tests.chromium import Browser, Failed
 from tests.harness import EXAMPLES, SERVICES, reported
 from tests.hub import sites
@@ -276,8 +277,9 @@ def make_waiting(folder, site):
     async def put():
         its = record.Record(folder / f"site{site}.record", site, 64)
         await its.open(lambda: [])
+        answer = line(confirmation(InstgAgt="SCALBEBB", DbtrAgt="LUTEFRPP", OrgnlTxId="LATE/1")).strip().encode()
         await its.put_waiting([waiting.to_wait(chain.utc(time.time() + 3600), "scalbebb", "SCALBEBBXXX", "pacs.002",
-                                               "LUTEFRPPXXX", "LATE/1", "", b"{}")])
+                                               "LUTEFRPPXXX", "LATE/1", "", answer)])
         await its.close()
     folder.mkdir(mode=0o700)
     asyncio.run(put())
