@@ -29,7 +29,7 @@ from tests import harness, inputs
 from tests.hub import secure, sites
 
 CLIENTS, SAMPLES = 4, 300
-ROLES = {"operator": ["operator", "desk"], "bank": ["bank BANKDEFF"],
+ROLES = {"operator": ["operator"], "desk": ["desk"], "bank": ["bank BANKDEFF"],
          **{f"site{number}": [f"peer {number}"] for number in range(1, 4)}}
 WAYS = {None: "without TLS and roles", "operator": "with TLS, by an operator", "bank": "with TLS, by a bank"}
 
