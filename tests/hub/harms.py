@@ -16,6 +16,7 @@ from tests.harness import SERVICES
 from tests.hub import secure, sites
 from tests.hub.attackers import HAN, LUX, SCA, Secure, confirmation, instruction, recorded
 from tests.hub.limits import connections, memory
+from tests.hub.processes import kill
 from tests.hub.sites import until
 from tests.hub.trial import head, is_closed, status_of
 from tests.hub.troubles import tried_with_tls
@@ -285,19 +286,32 @@ def at_once(many, call):
     return threads, ended
 
 
-def is_in_turn(it, hub, path, who, other, other_path, body=None, other_body=None, many=30):
-    """Whether another client is answered before most of what one asks at once, and what the other is answered. It has
-    its connection before: a handshake may wait for long."""
+def is_in_turn(it, hub, path, who, other, other_path, body=None, other_body=None, many=30, stops=False):
+    """Whether another client is answered before half of what one asks at once is, and what the other is answered. It
+    has its connection before: a handshake may wait for long. With `stops` the process stands still until all is asked,
+    because it answers as fast as a client can ask."""
     connection = http.client.HTTPSConnection("localhost", hub.port, timeout=300, context=it.made.context(other))
     connection.request("GET", "/live")
     connection.getresponse().read()
+    if stops:
+        kill(hub, signal.SIGSTOP)
     threads, ended = at_once(many, lambda: it.asked(hub, path, body, who=who, timeout=300).status)
-    until(lambda: len(ended) > 1, 120)
-    answer = sites.answer_on(connection, other_path, other_body, {})
-    before = len(ended)
+    if stops:
+        time.sleep(1)  # what has not come by then comes after the other client
+    else:
+        until(lambda: len(ended) > 1, 120)
+    begun = len(ended)
+    connection.request("POST" if other_body else "GET", other_path, other_body, {})
+    if stops:
+        time.sleep(0.2)
+        kill(hub, signal.SIGCONT)
+    with connection.getresponse() as response:
+        response.read()
+        status = response.status
+    during = len(ended) - begun
     for one in threads:
         one.join(300)
-    return before < many // 2, answer.status, set(ended)
+    return during < many // 2, status, set(ended)
 
 
 def rows(*transfers):
@@ -313,13 +327,13 @@ def asks_much(trial):
         it.asked(hub, "/messages", b"".join(instruction(LUX, SCA, number) for number in range(200)), who="operator")
         it.asked(hub, "/messages", b"".join(confirmation(SCA, LUX, number) for number in range(5000, 5200)),
                  who="scalbebb")
-        listed = rows(*((LUX, f"T{number}") for number in range(150)))
+        listed = rows(*((LUX, f"T{number}") for number in range(100)))
         found = is_in_turn(it, hub, f"/report/{LUX}/2024-05-02", "lutefrpp", "hansdehh", f"/report/{HAN}/2024-05-02",
-                           listed, rows((HAN, "T1")), 12)
+                           listed, rows((HAN, "T1")), 60, stops=True)
         yield "reports of one bank do not keep another one from its report", found == (True, 200, {200}), str(found)
-        found = is_in_turn(it, hub, f"/totals/{LUX}", "lutefrpp", "hansdehh", f"/totals/{HAN}", many=50)
+        found = is_in_turn(it, hub, f"/totals/{LUX}", "lutefrpp", "hansdehh", f"/totals/{HAN}", many=50, stops=True)
         yield "nor do its totals", found[:2] == (True, 200), str(found)
-        found = is_in_turn(it, hub, "/waiting", "scalbebb", "hansdehh", "/waiting", many=40)
+        found = is_in_turn(it, hub, "/waiting", "scalbebb", "hansdehh", "/waiting", many=120)
         yield "nor what waits", found[:2] == (True, 200), str(found)
         yield "and others post", it.words(hub, "hansdehh", instruction(HAN, SCA, 9000)) == ["TAKEN"]
 
