@@ -300,7 +300,6 @@ def is_in_turn(it, hub, path, who, other, other_path, body=None, other_body=None
         time.sleep(1)  # what has not come by then comes after the other client
     else:
         until(lambda: len(ended) > 1, 120)
-    begun = len(ended)
     connection.request("POST" if other_body else "GET", other_path, other_body, {})
     if stops:
         time.sleep(0.2)
@@ -308,10 +307,10 @@ def is_in_turn(it, hub, path, who, other, other_path, body=None, other_body=None
     with connection.getresponse() as response:
         response.read()
         status = response.status
-    during = len(ended) - begun
+    before = len(ended)
     for one in threads:
         one.join(300)
-    return during < many // 2, status, set(ended)
+    return before < many // 2, status, set(ended)
 
 
 def rows(*transfers):
