@@ -133,14 +133,19 @@ def requests(program, folder):
 
 # ---- an opening
 
+def write_journal(path, lines):
+    """The journal of a site that took these lines, each with its line feed."""
+    with open(path, "wb") as file:
+        file.write(serve.gated([HEAD])[:-1])
+        for line in lines:
+            file.write(serve.OPEN + line.encode())
+        file.write(serve.SHUT)
+
+
 def opening(program, folder, many):
     with tempfile.TemporaryDirectory(dir=folder) as place:
         path = pathlib.Path(place, "serve")
-        with open(path, "wb") as file:
-            file.write(serve.gated([HEAD])[:-1])
-            for line in messages.lines(many):
-                file.write(serve.OPEN + line.encode())
-            file.write(serve.SHUT)
+        write_journal(path, messages.lines(many))
         began = time.perf_counter()
         with Process(program, 1, 2, path) as process:
             ready = process.reply(LATEST)

@@ -13,22 +13,23 @@
  *     sct_outcome copied = sct_site_answer(&site, buffer, made.length);
  *     sct_site_close(&site);
  *
- * In C++ the class `niluppang::site` has the handle, and closes it.
+ * In C++ the class `niluppang::site` has the handle, and closes it. `niluppang::site_snapshot` is a snapshot of one.
  *
  * What a caller owes. Nothing checks it:
  * - A handle (sct_site) is SCT_SITE_EMPTY, all zero, before its first call. After that the caller neither reads nor writes what is in
  *   it, and does not copy it. It may move to another address between two calls, if the old one is not used any more.
  * - One call at a time uses a handle. That holds of each call, also of those that only read: two threads never share a handle without
- *   a lock. Different handles are independent: different threads may use them at once. A handle may pass from thread to thread by a
- *   lock, or by the start or the end of a thread.
+ *   a lock. Different handles are independent, also those of a site and its snapshots: different threads may use them at once. A handle
+ *   may pass from thread to thread by a lock, or by the start or the end of a thread.
  * - At a pointer are as many items as its length says. It may be null if its length is 0. What a call writes overlaps nothing else.
  *   A length is below 2^63.
  * - No call comes from a signal handler, or after fork in the child of a process with several threads.
  * - Each thread that calls has at least 256 KB of stack.
  *
  * What a call does. Each call ends. It starts no thread, takes no lock, opens no file and prints nothing. It calls malloc, realloc,
- * free, memcpy, memmove, memset and memcmp. Its memory belongs to the handle: sct_site_close frees all of it. It keeps no pointer
- * of the caller. Texts, in and out, are UTF-8 with a length: no zero byte ends them.
+ * free, memcpy, memmove, memset and memcmp. Its memory belongs to the handle: sct_site_close frees all of it. What a site and its
+ * snapshots share is freed with the last of them. It keeps no pointer of the caller. Texts, in and out, are UTF-8 with a length: no zero
+ * byte ends them.
  *
  * Refusals. A call whose `ok` is false has changed nothing of the site but what sct_site_why copies, with one exception, which
  * sct_site_take_lines names. Its `code` says why, and its counts and length are 0. `code` is 0 if `ok` is true. sct_site_why has the whole
@@ -56,10 +57,11 @@
  *     72 BadVector         the text is not a version vector
  *     73 BadArgument       a bank, an identification, a day, an origin, a count or a size is not valid: the place is that of the argument, from 1
  *     79 NotYours          the bank is none of the banks that ask
- *     80 NotSender         the sender of the message is none of the banks in whose name it is sent
- *     81 NotOriginator     the originator bank of the transaction at the place is none of the banks
- *     82 NotBeneficiary    the beneficiary bank of each instruction on the transfer is none of the banks
- *     83 Waits             no instruction on the transfer is held yet; the call can be made again when there is one
+ *     81 NotSender         the sender of the message is none of the banks in whose name it is sent
+ *     82 NotOriginator     the originator bank of the transaction at the place is none of the banks
+ *     83 NotBeneficiary    the beneficiary bank of each instruction on the transfer is none of the banks
+ *     84 Waits             no instruction on the transfer is held yet; the call can be made again when there is one
+ *     85 Snapshot          the handle has a snapshot of a site, which takes nothing
  *
  * `place` counts from 1. It is 0 with every other number. docs/users/codes.md has a remedy for each.
  *
@@ -117,10 +119,11 @@ typedef enum sct_code {
     SCT_BAD_VECTOR = 72,
     SCT_BAD_ARGUMENT = 73,
     SCT_NOT_YOURS = 79,
-    SCT_NOT_SENDER = 80,
-    SCT_NOT_ORIGINATOR = 81,
-    SCT_NOT_BENEFICIARY = 82,
-    SCT_WAITS = 83
+    SCT_NOT_SENDER = 81,
+    SCT_NOT_ORIGINATOR = 82,
+    SCT_NOT_BENEFICIARY = 83,
+    SCT_WAITS = 84,
+    SCT_SNAPSHOT = 85
 } sct_code;
 
 /* A handle: 16 bytes that the caller keeps anywhere, and whose address it passes. What is in it is the library's. */
@@ -219,39 +222,54 @@ SCT_CALL void sct_site_close(sct_site *site);
 
 /* Takes the message that one JSON object is. It becomes the site's own message `number`, unless the site holds it already. If it is
  * no repeat, write it to the journal, on one line, before you acknowledge it to anyone, and before the next cut.
- * Refusals: 31 to 38, 46, 56, 65, 70. */
+ * Refusals: 31 to 38, 46, 56, 65, 70, 85. */
 SCT_CALL SCT_READ sct_taken sct_site_take(sct_site *site, const uint8_t *json, size_t length);
 
 /* As sct_site_take, if the message may be sent in the name of some banks. `banks` is a text such as `BANKDEFF,BANQFRPP`: 1 to 16 BICs of
  * 8 or 11 characters, with commas between them. They are the banks for which a client stands. Who stands for which is up to the caller. A
  * message that may not be sent is refused by the first of these that holds:
  *
- *     80    its sender, InstgAgt, is none of the banks
- *     81    it is a pacs.008, camt.056 or pacs.028, and DbtrAgt of some transaction is none of them. The place is that of the first such one
- *     83    it is a pacs.002, pacs.004 or camt.029, and the site holds no instruction on its transfer, which sct_site_why names
- *     82    it is one of these three, and CdtrAgt of no instruction on its transfer is one of the banks
+ *     81    its sender, InstgAgt, is none of the banks
+ *     82    it is a pacs.008, camt.056 or pacs.028, and DbtrAgt of some transaction is none of them. The place is that of the first such one
+ *     84    it is a pacs.002, pacs.004 or camt.029, and the site holds no instruction on its transfer, which sct_site_why names
+ *     83    it is one of these three, and CdtrAgt of no instruction on its transfer is one of the banks
  *
- * An instruction is a pacs.008. It counts also if it is contradicted. A message that is refused by 83 can be sent again when the instruction
- * is held. So 82 and 83 show whether one is. The cost is that of a take, and of a pacs.002, pacs.004 or camt.029 also that of the messages
+ * An instruction is a pacs.008. It counts also if it is contradicted. A message that is refused by 84 can be sent again when the instruction
+ * is held. So 83 and 84 show whether one is. The cost is that of a take, and of a pacs.002, pacs.004 or camt.029 also that of the messages
  * on its transfer. What is new is filed by its transfers.
- * Refusals: 31 to 38, 46, 56, 65, 70, 73 (1: the banks), 80 to 83. */
+ * Refusals: 31 to 38, 46, 56, 65, 70, 73 (1: the banks), 81 to 85. */
 SCT_CALL SCT_READ sct_taken sct_site_take_as(sct_site *site, const uint8_t *banks, size_t banks_length, const uint8_t *json, size_t length);
 
 /* Takes the messages of a text, one JSON object on each line. Blank lines are passed over. The answer has a line for each refused
  * line, such as `line 8: 36 InstgAgt 1`; `ok` is true all the same. It does not say which lines are repeats. The new ones are the last
  * lines of the journal: sct_site_journal_text above the number of lines that the journal had has them.
- * Refusals: 65, 70. With 65 some of the first messages may be taken; the text can be taken again. */
+ * Refusals: 65, 70, 85. With 65 some of the first messages may be taken; the text can be taken again. */
 SCT_CALL SCT_READ sct_lines sct_site_take_lines(sct_site *site, const uint8_t *text, size_t length);
 
 /* Accepts a delta, a text of form 1 or 2 as sct_site_cut makes it. All of it is accepted, or nothing. sct_site_newest_text of `fresh`
  * messages has what was new.
- * Refusals: 41 to 45, 65, 70. */
+ * Refusals: 41 to 45, 65, 70, 85. */
 SCT_CALL SCT_READ sct_accepted sct_site_accept(sct_site *site, const uint8_t *text, size_t length);
+
+/* ---- a snapshot: it is asked while its site goes on ---- */
+
+/* Puts a snapshot of a site into another handle, which is empty. The snapshot is a site of its own: it has the number and the group of
+ * `site`, holds what `site` holds now, and has an empty answer and no watch of changes. It stays so whatever becomes of `site`. Each call
+ * that asks works on it as on a site, and answers what `site` would have answered when the snapshot was made. Its first question goes through
+ * everything, and later ones do not. Each call that takes or accepts is refused there by 85, whatever it is given. A snapshot of it is equal
+ * to it.
+ *
+ * `site` and `snapshot` are different handles, and independent of each other: one thread may ask the snapshot while another one has the
+ * site take messages. Each is closed by itself, in any order. The cost is that of an address for each 4096 messages that are held, and of
+ * one for each of at most 4095 more. No message is copied. The first take, accept or snapshot after sct_site_restore copies an address for
+ * each message that was restored.
+ * Refusals: 65, 70, 71 (`snapshot` has a site, and keeps it). With 65 `snapshot` stays empty. */
+SCT_CALL SCT_READ sct_outcome sct_site_snapshot(sct_site *site, sct_site *snapshot);
 
 /* ---- what the site holds, and deltas out ---- */
 
 /* Writes into `counts` how many messages of site 1, 2, .. `items` this site holds: its version vector. Items past the group are 0.
- * Refusals: 44 (more than 1024 items), 70. */
+ * Refusals: 44 (more than 1024 items), 65 (a snapshot's first question), 70. */
 SCT_CALL SCT_READ sct_outcome sct_site_counts(sct_site *site, uint64_t *counts, size_t items);
 
 /* The answer becomes the version vector as text, such as `1:20,3:7`: of site 1 this site holds 20 messages, and 7 of site 3. It is
@@ -429,16 +447,16 @@ SCT_CALL SCT_READ sct_outcome sct_site_answer_end(sct_site *site);
 
 /* Copies to `out` why the last call of this site was refused, as the program prints it, such as `36 InstgAgt 1`: the number, and what
  * is wrong. It is copied if it fits into `room` bytes, and `length` is its length in both cases. It is empty if that call was not
- * refused. The last call is the last one that takes, accepts or makes an answer. It is not one of the four that copy or end an answer
- * or copy this text, and it is none that opens a site or asks for counts. In this text
+ * refused. The last call is the last one that takes, accepts, makes a snapshot of this site or makes an answer. It is not one of the four
+ * that copy or end an answer or copy this text, and it is none that opens a site, asks for counts or is refused by 71. In this text
  *
  *     34 KEY, 35 KEY, 37 KEY     are followed by the key
  *     36 KEY NUMBER, 38 NUMBER   by what is wrong with its text, and by the rule that is broken (docs/users/codes.md)
  *     41 SITE HAVE FIRST         by the origin, how many of its messages are held, and the first number of the delta
  *     42 SITE NUMBER, 43 NUMBER  by the number under which two messages differ, and by the one that the journal lost
- *     45, 46, 48, 73, 81         by the place
+ *     45, 46, 48, 73, 82         by the place
  *     56 PLACE                   by the place of the transaction, and by its fault
- *     83 BANK TX                 by the transfer: its originator bank, of 11 characters, and its identification, which is the rest
+ *     84 BANK TX                 by the transfer: its originator bank, of 11 characters, and its identification, which is the rest
  *
  * Refusals: 65, 70. */
 SCT_CALL SCT_READ sct_outcome sct_site_why(sct_site *site, uint8_t *out, size_t room);
@@ -458,6 +476,7 @@ sct_taken sct_raw_take(sct_site *site, const uint8_t *json, size_t length);
 sct_taken sct_raw_take_as(sct_site *site, const uint8_t *banks, size_t banks_length, const uint8_t *json, size_t length);
 sct_lines sct_raw_take_lines(sct_site *site, const uint8_t *text, size_t length);
 sct_accepted sct_raw_accept(sct_site *site, const uint8_t *text, size_t length);
+sct_outcome sct_raw_snapshot(sct_site *site, sct_site *snapshot);
 sct_outcome sct_raw_counts(sct_site *site, uint64_t *counts, size_t items);
 sct_outcome sct_raw_vector_text(sct_site *site);
 sct_outcome sct_raw_cut(sct_site *site, const uint8_t *vector, size_t length);
@@ -536,6 +555,10 @@ static inline sct_lines sct_site_take_lines(sct_site *site, const uint8_t *text,
 
 static inline sct_accepted sct_site_accept(sct_site *site, const uint8_t *text, size_t length) {
     return sct_raw_accept(site, (const uint8_t *)sct_private_at(text, length), length);
+}
+
+static inline sct_outcome sct_site_snapshot(sct_site *site, sct_site *snapshot) {
+    return sct_raw_snapshot(site, snapshot);
 }
 
 static inline sct_outcome sct_site_counts(sct_site *site, uint64_t *counts, size_t items) {
@@ -695,38 +718,23 @@ static inline size_t sct_code_text(uint8_t code, uint8_t *out, size_t room) {
 
 namespace niluppang {
 
-/* A handle that is closed at its end. It can be moved, and not copied. Texts are strings of bytes, and each call is the one of C with
- * its name: its result has to be read. */
-class site {
+class site_snapshot;
+
+/* What a site and a snapshot of one have in common: a handle, which is closed at the end, and the calls that ask. It can be moved, and
+ * not copied. Texts are strings of bytes, and each call is the one of C with its name: its result has to be read. */
+class questions {
   public:
-    site() noexcept : handle_ SCT_SITE_EMPTY {}
-    ~site() { sct_site_close(&handle_); }
-    site(const site &) = delete;
-    site &operator=(const site &) = delete;
-    site(site &&other) noexcept : handle_(other.handle_) { other.handle_ = sct_site SCT_SITE_EMPTY; }
-    site &operator=(site &&other) noexcept {
-        if (this != &other) {
-            sct_site_close(&handle_);
-            handle_ = other.handle_;
-            other.handle_ = sct_site SCT_SITE_EMPTY;
-        }
-        return *this;
-    }
+    questions(const questions &) = delete;
+    questions &operator=(const questions &) = delete;
 
     /* The handle, for the calls of C. */
     sct_site *get() noexcept { return &handle_; }
 
-    SCT_READ sct_outcome open(uint16_t number, uint16_t group) { return sct_site_open(&handle_, number, group); }
-    SCT_READ sct_outcome restore(uint16_t number, uint16_t group, const std::string &journal, const std::string &delta) {
-        return sct_site_restore(&handle_, number, group, at(journal), journal.size(), at(delta), delta.size());
-    }
     void close() { sct_site_close(&handle_); }
-    SCT_READ sct_taken take(const std::string &json) { return sct_site_take(&handle_, at(json), json.size()); }
-    SCT_READ sct_taken take_as(const std::string &banks, const std::string &json) {
-        return sct_site_take_as(&handle_, at(banks), banks.size(), at(json), json.size());
-    }
-    SCT_READ sct_lines take_lines(const std::string &text) { return sct_site_take_lines(&handle_, at(text), text.size()); }
-    SCT_READ sct_accepted accept(const std::string &text) { return sct_site_accept(&handle_, at(text), text.size()); }
+
+    /* Puts a snapshot into an object that has none. It can be moved to another thread, and is closed by itself. */
+    SCT_READ sct_outcome snapshot(site_snapshot &empty);
+
     SCT_READ sct_outcome counts(uint64_t *counts, size_t items) { return sct_site_counts(&handle_, counts, items); }
     SCT_READ sct_outcome vector_text() { return sct_site_vector_text(&handle_); }
     SCT_READ sct_outcome cut(const std::string &vector) { return sct_site_cut(&handle_, at(vector), vector.size()); }
@@ -768,7 +776,6 @@ class site {
     SCT_READ sct_outcome report_for(const std::string &banks, const std::string &bank, const std::string &day, const std::string &list) {
         return sct_site_report_for(&handle_, at(banks), banks.size(), at(bank), bank.size(), at(day), day.size(), at(list), list.size());
     }
-    SCT_READ sct_outcome changes() { return sct_site_changes(&handle_); }
     SCT_READ sct_outcome answer_part(size_t from, uint8_t *out, size_t room) {
         return sct_site_answer_part(&handle_, from, out, room);
     }
@@ -784,16 +791,50 @@ class site {
         return copied([this](uint8_t *out, size_t room) { return sct_site_why(&handle_, out, room); });
     }
 
-  private:
+  protected:
+    questions() noexcept : handle_ SCT_SITE_EMPTY {}
+    ~questions() { sct_site_close(&handle_); }
+    questions(questions &&other) noexcept : handle_(other.handle_) { other.handle_ = sct_site SCT_SITE_EMPTY; }
+    questions &operator=(questions &&other) noexcept {
+        if (this != &other) {
+            sct_site_close(&handle_);
+            handle_ = other.handle_;
+            other.handle_ = sct_site SCT_SITE_EMPTY;
+        }
+        return *this;
+    }
+
     sct_site handle_;
 
     static const uint8_t *at(const std::string &text) { return reinterpret_cast<const uint8_t *>(text.data()); }
 
+  private:
     template <typename Copy> static std::string copied(Copy copy) {
         std::string text(copy(nullptr, 0).length, '\0');
         return copy(reinterpret_cast<uint8_t *>(&text[0]), text.size()).ok ? text : std::string();
     }
 };
+
+/* What a site held when `snapshot` was called. It is empty before that. */
+class site_snapshot : public questions {};
+
+/* A site, which is empty until it is opened or restored. */
+class site : public questions {
+  public:
+    SCT_READ sct_outcome open(uint16_t number, uint16_t group) { return sct_site_open(&handle_, number, group); }
+    SCT_READ sct_outcome restore(uint16_t number, uint16_t group, const std::string &journal, const std::string &delta) {
+        return sct_site_restore(&handle_, number, group, at(journal), journal.size(), at(delta), delta.size());
+    }
+    SCT_READ sct_taken take(const std::string &json) { return sct_site_take(&handle_, at(json), json.size()); }
+    SCT_READ sct_taken take_as(const std::string &banks, const std::string &json) {
+        return sct_site_take_as(&handle_, at(banks), banks.size(), at(json), json.size());
+    }
+    SCT_READ sct_lines take_lines(const std::string &text) { return sct_site_take_lines(&handle_, at(text), text.size()); }
+    SCT_READ sct_accepted accept(const std::string &text) { return sct_site_accept(&handle_, at(text), text.size()); }
+    SCT_READ sct_outcome changes() { return sct_site_changes(&handle_); }
+};
+
+inline sct_outcome questions::snapshot(site_snapshot &empty) { return sct_site_snapshot(&handle_, empty.get()); }
 
 }  // namespace niluppang
 #endif

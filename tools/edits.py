@@ -183,12 +183,17 @@ def refused_above(bench: Bench, edits: list[Edit]) -> Iterator[tuple[Edit, str]]
 
 # ---- one crate
 
+def all_but_libraries(folder: str, names: list[str]) -> list[str]:
+    """What a copy of the crates leaves out: of what was made, all but the libraries."""
+    return [name for name in names if name != "rlib"] if pathlib.Path(folder).name == "out" else []
+
+
 @contextlib.contextmanager
 def bench_of(crate: str) -> Iterator[Bench]:
-    """A copy of the crates, with the libraries below one that `rt ci` kept."""
+    """A copy of the crates, with the libraries below one that this clone has or `rt ci` kept."""
     with tempfile.TemporaryDirectory(prefix="edits-") as folder:
         top = pathlib.Path(folder)
-        shutil.copytree(TOP / "crates", top / "crates", ignore=shutil.ignore_patterns("out"))
+        shutil.copytree(TOP / "crates", top / "crates", ignore=all_but_libraries)
         for name in ("crates.txt", "HANDLES"):
             shutil.copy(TOP / name, top / name)
         kept.prepare(crate, shutil.which("rt") or "rt", top)

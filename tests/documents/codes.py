@@ -18,7 +18,7 @@ from tools import man_page
 from tools.desk.page_tables import plain, tables
 
 SHOWN = ["Line", "Example"]
-MOST = 83  # the greatest number
+MOST = 85  # the greatest number
 # a function that numbers something, and a case of it
 NUMBERING = re.compile(r"^( *)(?:pub )?fn (?:\w+_)?number\(.*?\n\1\}\n", re.DOTALL | re.M)
 NUMBERED = re.compile(r"(\w+Fault|Permission)::(\w+)(?:\([^)]*\)|\s*\{[^}]*\})? => ([1-9]\d*),")

@@ -5,7 +5,7 @@ VERSION has the version. The macros of include/niluppang.h, bindings/python, the
 `sct_version` of sct_c, which returns the number of that crate, agree with it, and so do the numbers in bindings/java
 and in the example in Rust. Each call that the header explains is an inline function there. It hands its arguments to
 the function of the library with the same name, result and parameters, and a word in place of a pointer to nothing.
-These functions are the exports of sct_c with the same types, and there is no other export. The class of C++ and the
+These functions are the exports of sct_c with the same types, and there is no other export. The classes of C++ and the
 Python package have each call. The results have the same fields in the header, in the crate and in Python, and their
 sizes are those that the header asserts. The numbers, names and meanings of the header's table are those of its
 enumeration, of the crate sct_embed and of tests/embed/model.py, and are numbers of the code. What concerns sct_c is
@@ -148,8 +148,8 @@ def header_checks(version):
         yield reported(f"{name} hands its arguments on", right, f"{given.get(raw_name(name))}\n{found.get(name)}")
         yield reported(f"the result of {name} has to be read", is_read(name) == (function.result != "void"))
         if name.startswith("sct_site_"):
-            in_class = re.search(rf"\b{name}\(&handle_", HEADER.partition("class site {")[2]) is not None
-            yield reported(f"the class of C++ has {name}", in_class)
+            in_class = re.search(rf"\b{name}\(&handle_", HEADER.partition("namespace niluppang {")[2]) is not None
+            yield reported(f"a class of C++ has {name}", in_class)
     for name, fields in structures().items():
         asserted = f"SCT_PRIVATE_ASSERT(sizeof({name}) == {size_of(fields)}, " in HEADER
         yield reported(f"{name} has {size_of(fields)} bytes", asserted)
@@ -242,7 +242,7 @@ def python_types(result, *arguments):
     """The types of a function, as C writes them, by those of ctypes. A text that only goes in is a c_char_p."""
     names = {"c_char_p": "const uint8_t *", "c_void_p": "uint8_t *", "c_ubyte": "uint8_t",
              "c_ushort": "uint16_t", "c_uint": "uint32_t",
-             "c_ulong": "uint64_t", "LP_c_ulong": "uint64_t *"}
+             "c_ulong": "uint64_t", "LP_c_ulong": "uint64_t *", "LP_Handle": HANDLE}
     results = {structure: name for name, structure in PYTHON_RESULTS.items()}
     return [results.get(result) or (names[result.__name__] if result else "void"),
             *(names[argument.__name__] for argument in arguments)]

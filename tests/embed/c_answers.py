@@ -10,6 +10,8 @@ a journal. What
 - Each number of the header once, with its place and with why, and each call on a handle without a site.
 - Why a call was refused, until the next call; parts of an answer; an evaluation; the name and the meaning of each of
 256 numbers.
+- Snapshots: of the examples, and of sites that go on, end or are snapshots themselves. Some have as many messages as a
+sealed block of the site, one more and one fewer.
 - Entries of one origin, in room for none of them, for some and for all. Digests, by hashlib.
 - Texts and rooms without bytes, at an address and at none, and objects over several lines.
 - Sites 1 to 1024 of the largest group. Each gives its message to site 1, and three are given all.
@@ -20,6 +22,7 @@ a journal. What
 its version. It
   needs nothing but the C library, and no stack whose bytes run.
 """
+import collections
 import hashlib
 import json
 import re
@@ -38,6 +41,7 @@ OF_COMPILER = {"__udivti3", "__umodti3"}  # of the library that each compiler of
 BANK, DAY, STACK = b"BANKDEFF", b"2024-05-02", 256 * 1024
 LATER = "2025-03-11"  # the day after the messages of most examples
 MOST_SITES, LONG, MOST = 1024, 20_000, 2 ** 64 - 1
+BLOCK = 4096  # messages that a site seals together
 HELD = 200, 6000  # messages
 # what only_reads.c writes: the answer, a part of it, the reason and the counts of a site that took two refused lines
 READ = b"answer 1 0 22 line 1: 31\nline 2: 33\n\npart 1 0 4 1: 3\nwhy 1 0 2 72\ncounts 1 0 0 0 0\n"
@@ -76,9 +80,9 @@ def right(name, program, requests, wanted, words=()):
 
 def as_modelled(name, program, requests, words=()):
     """Whether the replies to requests are those of the model."""
-    handles, wanted = {}, []
+    handles, wanted = collections.defaultdict(model.Handle), []
     for call, handle, *arguments in requests:
-        fields, text = handles.setdefault(handle, model.Handle()).call(call, *arguments)
+        fields, text = model.called(handles, handle, call, *arguments)
         wanted.append(({field: fields[field] for field in driving.FIELDS[call] if field in fields}, text))
     return right(name, program, requests, wanted, words)
 
@@ -113,8 +117,13 @@ def example(program, stem):
     lines, refused = ((EXAMPLES / (stem + suffix)).read_bytes() for suffix in (".jsonl", ".refused"))
     opened = ("open", 0, 1, 1), (OK, b"")
     of_journal = "".join(f"file 1 {line}\n" for line in refused.decode().splitlines()).encode()
+    of_other = [(("open", 1, 1, 1), (OK, b"")), (("take_lines", 1, lines), ({"ok": 1, "code": 0}, refused)),
+                (("snapshot", 1, 0), (OK, b"")),
+                (("take", 1, instruction(1).encode()), ({"ok": 1, "is_repeat": 0}, b""))]
     ways = {"at once": [opened, (("take_lines", 0, lines), ({"ok": 1, "code": 0}, refused))],
             "one by one": [opened, *takes_of(lines, refused)],
+            "as a snapshot of a site that goes on": of_other,
+            "as a snapshot of a site that is closed": [*of_other, (("close", 1), ({}, None))],
             "restored": [(("restore", 0, 1, 1, lines, EMPTY_DELTA), (OK, of_journal))]}
     for way, begin in ways.items():
         requests, wanted = zip(*begin, *answers_of(stem))
@@ -254,8 +263,8 @@ def refused_takes():
 
 def refused_calls():
     """A call for each other number, or several: on handle 0, which holds two messages of site 1 of 3, on handle 1,
-    which holds one of site 2 and the first of site 1, and on handle 2, which is empty. Each with the number, the place,
-    and why: None at no site."""
+    which holds one of site 2 and the first of site 1, on handle 2, which is empty, and on handle 3, which has a
+    snapshot of handle 0. Each with the number, the place, and why: None at no site."""
     header, items = b"DbtrAgt,TxId,Amt,Sts\n", [0] * (MOST_SITES + 1)
     yield from [(("accept", 1, delta(1, 3, 4)), 41, 0, "41 1 1 3"), (("accept", 1, delta(1, 1, 2)), 42, 0, "42 1 1"),
                 (("accept", 0, delta(1, 3, 4)), 43, 0, "43 3"), (("accept", 0, delta(1, 2, 2, 4)), 43, 0, "43 3"),
@@ -264,7 +273,10 @@ def refused_calls():
     yield from [(("counts", 0, len(items)), 44, 0, "45 2"), (("cut_above", 0, items), 44, 0, "44"),
                 (("cut", 0, b"1"), 72, 0, "72"),
                 (("cut", 0, b""), 72, 0, "72")]
-    yield from [(("open", 0, 1, 1), 71, 0, "72"), (("restore", 0, 1, 1, b"", EMPTY_DELTA), 71, 0, "72")]
+    yield from [(("open", 0, 1, 1), 71, 0, "72"), (("restore", 0, 1, 1, b"", EMPTY_DELTA), 71, 0, "72"),
+                (("snapshot", 0, 1), 71, 0, "72"), (("snapshot", 0, 3), 71, 0, "72"), (("snapshot", 2, 4), 70, 0, None),
+                (("snapshot", 2, 1), 70, 0, None)]
+    yield from refused_by_snapshot()
     yield from [(("entries", 0, *numbers), 73, place, f"73 {place}") for numbers, place in NO_ENTRIES]
     yield from [(("digest", 0, *numbers), 73, place, f"73 {place}") for numbers, place in NO_DIGESTS]
     yield from [(("report", 0, BANK, DAY, b""), 48, 1, "48 1"),
@@ -283,16 +295,29 @@ def refused_calls():
         yield (name, 2, *words), 70, 0, None
 
 
+def refused_by_snapshot():
+    """A snapshot takes nothing, whatever it is given, and refuses questions as a site does."""
+    of_bank = [("take_as", 3, banks, json)
+               for banks in (BANK, b"BANKDEFF,") for json in (instruction(3).encode(), b"{")]
+    takes = [("take", 3, json) for json in (instruction(3).encode(), instruction(1).encode(), b"{", b"")]
+    lines = [("take_lines", 3, text) for text in (instruction(3).encode(), b"x", b"")]
+    deltas = [("accept", 3, text) for text in (delta(2, 1, 3), delta(1, 1, 1), EMPTY_DELTA, b"")]
+    yield from ((call, 85, 0, "85") for call in [*takes, *of_bank, *lines, *deltas])
+    yield from [(("open", 3, 1, 3), 71, 0, "85"), (("restore", 3, 1, 3, b"", b""), 71, 0, "85"),
+                (("cut", 3, b"1"), 72, 0, "72"), (("counts", 3, MOST_SITES + 1), 44, 0, "72"),
+                (("digest", 3, 1, 3), 73, 2, "73 2"), (("bank_totals_for", 3, b"BANKITMM", BANK), 79, 0, "79")]
+
+
 def refused_to_banks():
     """The same for calls that are made in the name of banks. Handle 0 holds instructions of BANKDEFF to BANQFRPP."""
     other = b"BANKITMM"
     of_others = [samples.line(one).encode() for one in (samples.instruction(InstgAgt="BANKITMM"),
                                                         samples.confirmation(InstgAgt="BANKITMM"))]
     early = samples.line(samples.confirmation(OrgnlTxId="T9")).encode()
-    yield from [(("take_as", 0, other, instruction(3).encode()), 80, 0, "80"),
-                (("take_as", 0, other, of_others[0]), 81, 1, "81 1"),
-                (("take_as", 0, other, of_others[1]), 82, 0, "82"),
-                (("take_as", 0, b"BANQFRPP", early), 83, 0, "83 BANKDEFFXXX T9"),
+    yield from [(("take_as", 0, other, instruction(3).encode()), 81, 0, "81"),
+                (("take_as", 0, other, of_others[0]), 82, 1, "82 1"),
+                (("take_as", 0, other, of_others[1]), 83, 0, "83"),
+                (("take_as", 0, b"BANQFRPP", early), 84, 0, "84 BANKDEFFXXX T9"),
                 (("take_as", 0, b"BANKDEFF,", b"{}"), 73, 1, "73 1"), (("take_as", 0, BANK, b"{}"), 33, 0, "33")]
     yield from [(("transfer_text_for", 0, BANK, b"", b"T1"), 73, 2, "73 2"),
                 (("messages_text_for", 0, BANK, BANK, b"T//1"), 73, 3, "73 3"),
@@ -318,11 +343,13 @@ def zeros(fields, name):
 def refusals(program):
     """Each number once, with its place and with why, and what a refusal leaves as it was."""
     kept = [("open", 0, 1, 3), ("take", 0, instruction(1).encode()), ("take", 0, instruction(2).encode()),
-            ("open", 1, 2, 3), ("take", 1, instruction(3).encode()), ("accept", 1, delta(1, 1, 1)), ("status_text", 0)]
+            ("open", 1, 2, 3), ("take", 1, instruction(3).encode()), ("accept", 1, delta(1, 1, 1)), ("snapshot", 0, 3),
+            ("status_text", 0)]
     refused = [*((("take", 0, json), int(why[:2]), place, why) for json, place, why in refused_takes()),
                *refused_calls()]
     length = driving.asked(program, kept)[-1].fields["length"]
-    after = [("answer", 0, length), ("counts", 0, 3), ("counts", 1, 3), ("archive_text", 0), ("archive_text", 1)]
+    after = [("answer", 0, length), ("answer", 3, 9), *(("counts", site, 3) for site in (0, 1, 3)),
+             *(("archive_text", site) for site in (0, 1, 3))]
     as_was = driving.asked(program, [*kept, *after])[len(kept):]
     requests = kept + [ask for one, *_ in refused for ask in (one, ("why", one[1], 1 << 10))] + after
     wanted = [({"ok": 1}, None)] * len(kept)
@@ -345,7 +372,7 @@ def on_no_site():
         "closed_text": [DAY], "transfer_text": [BANK, b"T1"], "messages_text": [BANK, b"T1"], "bank_totals": [BANK],
         "take_as": [BANK, b"{}"], "transfer_text_for": [BANK, BANK, b"T1"], "messages_text_for": [BANK, BANK, b"T1"],
         "bank_totals_for": [BANK, BANK], "report_for": [BANK, BANK, DAY, b""],
-        "answer": [0], "answer_part": [0, 1], "why": [10]}
+        "answer": [0], "answer_part": [0, 1], "why": [10], "snapshot": [4]}
     texts = ["vector_text", "digests_text", "archive_text", "status_text", "totals_text", "contradictions_text",
              "changes", "evaluate", "answer_end"]
     return [*words.items(), *((name, []) for name in texts)]
@@ -359,7 +386,8 @@ def reasons(program):
     wrong = samples.line(samples.instruction(TxId=1)).encode()
     silent = [("answer", 0, 0), ("answer_part", 0, 0, 1), ("answer_end", 0), ("counts", 0, 1),
               ("counts", 0, 1025), ("open", 0, 1, 1),
-              ("restore", 0, 1, 1, b"", b""), ("code_name", 0, 35, 0), ("why", 0, 6), ("take", 1, b"{}"),
+              ("restore", 0, 1, 1, b"", b""), ("snapshot", 0, 1), ("code_name", 0, 35, 0), ("why", 0, 6),
+              ("take", 1, b"{}"),
               ("status_text", 1)]
     done = [("take", 0, instruction(1).encode()), ("take", 0, instruction(1).encode()),
             ("take_lines", 0, b"{"), ("accept", 0, EMPTY_DELTA),
@@ -371,6 +399,7 @@ def reasons(program):
             ("closed_text", 0, DAY), ("reading_text", 0, b"{}"), ("take_as", 0, BANK, instruction(1).encode()),
             ("transfer_text_for", 0, BANK, BANK, b"T1"), ("messages_text_for", 0, BANK, BANK, b"T1"),
             ("bank_totals_for", 0, BANK, BANK), ("report_for", 0, BANK, BANK, DAY, b"DbtrAgt,TxId,Amt,Sts\n"),
+            ("snapshot", 0, 2),
             *((name, 0) for name in ("vector_text", "archive_text", "status_text", "totals_text", "contradictions_text",
                                      "changes"))]
     well, refused = ({"ok": 1}, None), (("take", 0, wrong), ({"ok": 0}, None))
@@ -443,6 +472,77 @@ def nothing(program):
         yield as_modelled(f"nothing at {name}", program, requests, words)
 
 
+# ---- snapshots
+
+def all_of(handle):
+    """Requests for all that a handle of a site of three is asked."""
+    texts = ["vector_text", "digests_text", "archive_text", "status_text", "totals_text", "contradictions_text"]
+    bank, header = [BANK, BANK, b"T1"], b"DbtrAgt,TxId,Amt,Sts\n"
+    return [("counts", handle, 4), *((name, handle) for name in texts), ("cut", handle, b"1:1"),
+            ("cut_above", handle, [0, 1]), ("entries", handle, 2, 0, MOST_TEXT), ("digest", handle, 1, 2),
+            ("journal_text", handle, 1), ("newest_text", handle, 2), ("report", handle, BANK, DAY, header),
+            ("kept_text", handle, b"2025-01-01"), ("closed_text", handle, b"2025-01-01"),
+            ("transfer_text", handle, *bank[1:]), ("messages_text", handle, *bank[1:]), ("bank_totals", handle, BANK),
+            ("transfer_text_for", handle, *bank), ("messages_text_for", handle, *bank),
+            ("bank_totals_for", handle, BANK, BANK), ("report_for", handle, BANK, BANK, DAY, header)]
+
+
+def snapshots(program):
+    """A snapshot of a site that goes on, one of that, and what each has left when another is closed."""
+    one, two, five = (f"{written(number)}\n".encode() for number in (1, 2, 5))
+    vector, status_of = ({"ok": 1}, b"1:2,2:1"), b"T|BANKDEFFXXX|T%d|%s\n"
+    then = b"".join(status_of % (number, b"PENDING") for number in (1, 2, 5))
+    now = b"".join(status_of % (number, word) for number, word in ((1, b"ACCEPTED"), (2, b"PENDING"), (5, b"PENDING"),
+                                                                   (6, b"PENDING")))
+    begin = [("open", 0, 1, 3), ("take", 0, instruction(1).encode()), ("take", 0, instruction(2).encode()),
+             ("accept", 0, delta(2, 1, 5)), ("changes", 0), ("vector_text", 0)]
+    steps = [(("snapshot", 0, 1), (OK, b"")), (("answer", 0, 9), vector),
+             (("answer", 1, 9), ({**OK, "length": 0}, b"")),
+             (("take", 0, confirmation(1).encode()), ({"number": 3}, b"")), (("snapshot", 1, 2), (OK, b"")),
+             (("accept", 0, delta(2, 2, 6)), ({"fresh": 1}, b"")),
+             (("changes", 0), ({"ok": 1}, b"BANKDEFFXXX|T1\nBANKDEFFXXX|T6\n")),
+             *(((name, place), ({**OK, "length": len(text)}, text)) for place in (1, 2) for name, text in (
+                 ("status_text", then), ("archive_text", one + two + five), ("vector_text", b"1:2,2:1"))),
+             (("status_text", 0), ({"ok": 1}, now)), (("changes", 1), ({"ok": 1}, b"")),
+             (("changes", 1), ({"ok": 1}, b"")), (("journal_text", 2, 1), ({"ok": 1}, two)), (("close", 1), ({}, None)),
+             (("newest_text", 2, 2), ({"ok": 1}, two + five)), (("close", 0), ({}, None)),
+             (("cut", 2, b"1:2"), ({"ok": 1}, b"delta 2\norigin 2 1 1\n" + five + b"end 1\n")),
+             (("snapshot", 2, 0), (OK, b"")), (("close", 2), ({}, None)), (("status_text", 0), ({"ok": 1}, then)),
+             (("take", 0, b"{}"), ({"code": 85}, b""))]
+    requests, wanted = map(list, zip(*steps))
+    begun = [({"ok": 1}, None)] * len(begin)
+    yield right("snapshots of a site that goes on", program, begin + requests, begun + wanted)
+    more = [("take", 0, samples.line(samples.instruction(TxId="T7")).encode()), ("take", 0, confirmation(1).encode()),
+            ("accept", 0, delta(2, 2, 6, 7))]
+    asked = [("snapshot", 0, 1), *all_of(0), ("snapshot", 0, 2), *more, *all_of(1), ("close", 1), *all_of(0),
+             ("snapshot", 0, 1), ("close", 0), ("snapshot", 2, 0), *all_of(2), *all_of(1), ("close", 2), *all_of(0)]
+    yield as_modelled("each question to snapshots", program, begin + asked)
+    yield as_modelled("snapshots of a site without messages", program,
+                      [("open", 0, 3, 3), ("snapshot", 0, 1), *begin[1:], *all_of(1), *all_of(0)])
+
+
+def blocks(program):
+    """Snapshots of as many messages as the site seals in a block, one fewer and one more, also twice, made while the
+    site goes on. Each has the digest of its own messages."""
+    sizes = [many + more for many in (BLOCK, 2 * BLOCK) for more in (-1, 0, 1)]
+    lines = [instruction(number).encode() for number in range(1, sizes[-1] + 100)]
+    chain = [bytes(32)]
+    for number in range(1, len(lines) + 1):
+        chain.append(hashlib.sha256(chain[-1] + f"{written(number)}\n".encode()).digest())
+    pairs, held = [(("open", 0, 1, 1), OK)], 0
+    for place, many in enumerate([*sizes, len(lines)], 1):
+        pairs += [(("take_lines", 0, b"".join(lines[held:many])), {"fresh": many - held}), (("snapshot", 0, place), OK)]
+        held = many
+    requests, wanted = [call for call, _ in pairs], [(fields, None) for _, fields in pairs]
+    for place, many in enumerate([*sizes, len(lines)], 1):
+        last = f"{written(many)}\n".encode()
+        requests += [("digest", place, 1, many), ("counts", place, 1), ("newest_text", place, 1),
+                     ("journal_text", place, many - 1), ("digest", place, 1, many + 1), ("digest", place, 1, many - 1)]
+        wanted += [({"ok": 1}, text) for text in (chain[many].hex().encode(), many.to_bytes(8, "little"), last, last)]
+        wanted += [({"code": 73}, b""), ({"ok": 1}, chain[many - 1].hex().encode())]
+    yield right(f"snapshots of {sizes} messages", program, requests, wanted)
+
+
 def line_feeds(program):
     """An object with line feeds and other white space around it and between its parts, as no line is. Of two equal keys
     the last counts."""
@@ -496,7 +596,8 @@ def deepest():
                 ("newest_text", 0, LONG))
     yield "reading_text", 0, "".join(messages.lines(LONG)).encode()
     rows = "".join(f"BANKDEFF,T{place},1.00,PENDING\n" for place in range(5000))
-    yield "report", 0, BANK, DAY, ("DbtrAgt,TxId,Amt,Sts\n" + rows).encode()
+    rows = ("DbtrAgt,TxId,Amt,Sts\n" + rows).encode()
+    yield from (("report", 0, BANK, DAY, rows), ("snapshot", 0, 2), ("status_text", 2), ("report", 2, BANK, DAY, rows))
 
 
 def little_stack(program):
@@ -557,13 +658,14 @@ def asked_for(program, held):
                  ("transfer_text_for", 0, *of_one), ("messages_text_for", 0, *of_one),
                  ("bank_totals_for", 0, BANK, BANK), ("report_for", 0, BANK, BANK, DAY, b"DbtrAgt,TxId,Amt,Sts\n"),
                  ("take_as", 0, BANK, instruction(99).encode()),
-                 ("take_as", 0, b"BANQFRPP", confirmation(1).encode())]
+                 ("take_as", 0, b"BANQFRPP", confirmation(1).encode()), ("snapshot", 0, 1)]
     taken = [(("take", 0, instruction(number).encode()), question) for number, question in enumerate(questions, 1)]
-    requests = [("open", 0, 1, 1), ("take_lines", 0, lines), ("changes", 0), ("transfer_text_for", 0, *of_one),
+    report = next(question for question in questions if question[0] == "report_for")
+    requests = [("open", 0, 1, 1), ("take_lines", 0, lines), ("changes", 0), ("transfer_text_for", 0, *of_one), report,
                 *(request for pair in taken for request in pair)]
     replies = driving.asked(program, requests)
     whole = replies[1].fields["ok"] == 1 and replies[1].fields["fresh"] == held
-    return whole, [reply.asked for reply in replies[5::2]]
+    return whole, [reply.asked for reply in replies[6::2]]
 
 
 def progress(program):
@@ -613,9 +715,8 @@ def main():
     driving.end_if_missing()
     with driving.libraries() as folder:
         program = driving.built_driver(folder)
-        checks = (examples, hub, entries, digests, exchanged, refusals, reasons, parts, numbers, nothing, line_feeds,
-                  sizes, most_sites, little_stack, progress,
-                  costs)
+        checks = (examples, hub, entries, digests, exchanged, refusals, reasons, parts, numbers, nothing, snapshots,
+                  blocks, line_feeds, sizes, most_sites, little_stack, progress, costs)
         found = [one for check in checks for one in done(check, program)]
         harness.end_of([*found, *only_reads(folder), *names(folder)])
 

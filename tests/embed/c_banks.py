@@ -40,7 +40,7 @@ ACCEPTED, PENDING, MISSING = (b"T|BANKDEFFXXX|T1|%s\n" % word for word in (b"ACC
 UNKNOWN = b"T|BANKDEFFXXX|%s|UNKNOWN\n"
 CONTRADICTED = b"T|BANKDEFFXXX|%s|CONTRADICTED\nF|BANKDEFFXXX|%s|Identity|BANKDEFFXXX|pacs.008|M1\n"
 REPORT = b"DbtrAgt,TxId,Result,ListAmt,ListSts,Amt,Sts\n"
-WAITS = "83 BANKDEFFXXX T1"
+WAITS = "84 BANKDEFFXXX T1"
 
 
 def text(message):
@@ -68,7 +68,7 @@ def takes(banks, json, number):
 def refuses(call, why):
     """A call that is refused, and the question why, with what they come to. Some reasons have a place."""
     code, *more = why.split(" ")
-    place = int(more[0]) if code in ("46", "48", "56", "73", "81") else 0
+    place = int(more[0]) if code in ("46", "48", "56", "73", "82") else 0
     (fields, none), asked = wanted_of(int(code), place, why)
     yield call, (zeros(fields, call[0]), none)
     yield ("why", call[1], 99), asked
@@ -109,23 +109,23 @@ def sent(program):
     """Messages in the name of banks at a new site, one after another."""
     by_other = text(confirmation(InstgAgt="BANKITMM"))
     yield tried(program, "an instruction and its confirmation", *held(), *withheld(PAID, A2, WAITS),
-                *withheld(PAID, A8, "80"), takes(DEBTOR, A8, 1), takes(DEBTOR, A8, 0), takes(PAID, A2, 2),
-                *withheld(OTHER, by_other, "82"), *withheld(OTHER, text(instruction(InstgAgt="BANKITMM")), "81 1"),
+                *withheld(PAID, A8, "81"), takes(DEBTOR, A8, 1), takes(DEBTOR, A8, 0), takes(PAID, A2, 2),
+                *withheld(OTHER, by_other, "83"), *withheld(OTHER, text(instruction(InstgAgt="BANKITMM")), "82 1"),
                 *withheld(OTHER, b"{}", "33"), shows("archive_text", A8_LINE + A2_LINE))
     several = text(recall([transaction(), transaction(OrgnlTxId="T2", DbtrAgt="BANKBEBB"),
                            transaction(DbtrAgt="BANKITMM")]))
     yield tried(program, "what an originator bank sends", *held(), takes(DEBTOR, RECALL, 1),
                 takes(DEBTOR, text(request()), 2),
-                *withheld(DEBTOR, several, "81 2"), *withheld(b"BANKBEBB,BANKDEFF", several, "81 3"),
-                *withheld(b"BANKBEBB,BANKITMM", several, "80"), takes(b"BANKITMM,BANKDEFF,BANKBEBB", several, 3),
-                *withheld(OTHER, text(request(InstgAgt="BANKITMM")), "81 1"))
+                *withheld(DEBTOR, several, "82 2"), *withheld(b"BANKBEBB,BANKDEFF", several, "82 3"),
+                *withheld(b"BANKBEBB,BANKITMM", several, "81"), takes(b"BANKITMM,BANKDEFF,BANKBEBB", several, 3),
+                *withheld(OTHER, text(request(InstgAgt="BANKITMM")), "82 1"))
     for answer in (payback, refusal):
         its, by_other = text(answer()), text(answer(InstgAgt="BANKITMM"))
         yield tried(program, f"the {answer.__name__} of a beneficiary bank", *held(RECALL), *withheld(PAID, its, WAITS),
-                    *withheld(DEBTOR, its, "80"), takes(DEBTOR, A8, 2), *withheld(OTHER, by_other, "82"),
+                    *withheld(DEBTOR, its, "81"), takes(DEBTOR, A8, 2), *withheld(OTHER, by_other, "83"),
                     takes(PAID, its, 3), takes(b"BANKITMM,BANQFRPPXXX", by_other, 4))
     spaced = text(confirmation(OrgnlTxId="T 1 B"))
-    yield tried(program, "an identification with spaces", *held(A8), *withheld(PAID, spaced, "83 BANKDEFFXXX T 1 B"))
+    yield tried(program, "an identification with spaces", *held(A8), *withheld(PAID, spaced, "84 BANKDEFFXXX T 1 B"))
     first = [*withheld(b"X", b"{", "73 1"), *withheld(OTHER, b"{", "31"), *withheld(OTHER, b"", "31")]
     wrong = json.dumps({**recall([{}]), "TxInf": [transaction(), 7]}).encode()
     yield tried(program, "the banks come first, then what is no message", *held(), *first,
@@ -138,21 +138,21 @@ def instructed(program):
     yield tried(program, "two instructions to two banks", *held(A8, ELSEWHERE), takes(PAID, A2, 3),
                 takes(OTHER, by_other, 4))
     yield tried(program, "an instruction that another transfer contradicts", *held(A8, AGAINST), takes(PAID, A2, 3),
-                *withheld(OTHER, by_other, "82"), takes(OTHER, on_its_own, 4))
+                *withheld(OTHER, by_other, "83"), takes(OTHER, on_its_own, 4))
     delta = b"delta 2\norigin 2 1 1\n" + A8_LINE + b"end 1\n"
     came = ("accept", 0, delta), ({"ok": 1, "fresh": 1}, None)
     yield tried(program, "an instruction of another site", *held(), *withheld(PAID, A2, WAITS), came,
                 takes(PAID, A2, 1), takes(DEBTOR, A8, 0))
     again = ("restore", 0, 1, 2, A8, EMPTY_DELTA), ({"ok": 1}, b"")
-    yield tried(program, "an instruction of the journal", again, *withheld(OTHER, by_other, "82"), takes(PAID, A2, 2))
+    yield tried(program, "an instruction of the journal", again, *withheld(OTHER, by_other, "83"), takes(PAID, A2, 2))
 
 
 def unchanged(program):
     """Messages that are not taken leave the site, its journal, its answer and its changes."""
     waits = text(confirmation(OrgnlTxId="T5", MsgId="C5"))
-    refused = [*withheld(PAID, waits, "83 BANKDEFFXXX T5"), *withheld(OTHER, A8, "80"), *withheld(PAID, b"{", "31"),
-               *withheld(OTHER, text(instruction(InstgAgt="BANKITMM")), "81 1"), *withheld(b"BANQFRPP,", A2, "73 1"),
-               *withheld(OTHER, text(confirmation(InstgAgt="BANKITMM")), "82")]
+    refused = [*withheld(PAID, waits, "84 BANKDEFFXXX T5"), *withheld(OTHER, A8, "81"), *withheld(PAID, b"{", "31"),
+               *withheld(OTHER, text(instruction(InstgAgt="BANKITMM")), "82 1"), *withheld(b"BANQFRPP,", A2, "73 1"),
+               *withheld(OTHER, text(confirmation(InstgAgt="BANKITMM")), "83")]
     both, kept = A8_LINE + A2_LINE, shows("answer", 99, ACCEPTED)
     after = [kept, shows("journal_text", 0, both), shows("changes", b""), shows("vector_text", b"1:2"),
              shows("status_text", ACCEPTED), shows("archive_text", both)]

@@ -6,7 +6,8 @@ The default is the number of today and 20,000 calls. With --long there are 1,000
 A day is some hundred calls on the handles of a small group. Sites take and accept messages that confirm, recall and
 contradict each other, lines that are refused, deltas that are late, repeated, damaged and of another life of a site.
 Messages come in the name of banks, too. Sites are asked all questions at any time, also for banks, closed, opened anew
-and restored, and called on when they are closed. After each refusal they are asked why. In every second run a text or a
+and restored, and called on when they are closed. Snapshots of them are made, also of snapshots, and asked while their
+sites go on. After each refusal they are asked why. In every second run a text or a
 room without bytes is a null pointer. The address sanitizer checks driver.c and what it gives the library, and finds
 memory that is lost. model.py has what each call must come to: no crate is in it. A tenth of a usual number of calls is
 made under valgrind too, which sees each access of the library itself. Each call has to be met, and each number but 65,
@@ -29,8 +30,8 @@ from tests.property.hubs import NO_VECTORS
 from tests.property.messages import BANKS, Pool, shuffled
 from tests.property.worlds import refused_list, refused_text
 
-USUAL, LONG, OF_VALGRIND, DAYS_OF_A_RUN = 20_000, 1_000_000, 2_000, 10
-CALLS = {"take": 20, "take_as": 14, "take_lines": 6, "accept": 16, "changes": 6, "transfer_text": 6,
+USUAL, LONG, OF_VALGRIND, DAYS_OF_A_RUN, SNAPSHOTS = 20_000, 1_000_000, 2_000, 10, 2
+CALLS = {"take": 22, "take_as": 15, "take_lines": 6, "accept": 22, "changes": 6, "transfer_text": 6,
          "messages_text": 4, "status_text": 5,
          "archive_text": 3, "totals_text": 4, "contradictions_text": 3, "bank_totals": 4, "report": 4,
          "kept_text": 4, "closed_text": 3,
@@ -38,8 +39,8 @@ CALLS = {"take": 20, "take_as": 14, "take_lines": 6, "accept": 16, "changes": 6,
          "journal_text": 4, "newest_text": 4, "reading_text": 4, "evaluate": 4,
          "transfer_text_for": 8, "messages_text_for": 8, "bank_totals_for": 5, "report_for": 5,
          "answer": 4, "answer_part": 6, "answer_end": 2, "why": 8, "code_name": 1, "code_text": 1, "close": 2,
-         "open": 4, "restore": 4}
-NUMBERS = [31, 32, 33, 34, 35, 36, 37, 38, 41, 42, 43, 44, 45, 46, 48, 56, 70, 71, 72, 73, 79, 80, 81, 82, 83]
+         "open": 4, "restore": 4, "snapshot": 9}
+NUMBERS = [31, 32, 33, 34, 35, 36, 37, 38, 41, 42, 43, 44, 45, 46, 48, 56, 70, 71, 72, 73, 79, 81, 82, 83, 84, 85]
 REASONS = [f"why {number}" for number in NUMBERS if number not in (70, 71)]
 DAYS = ["2024-05-02", "2024-05-02", "2024-05-03", "2024-5-2", ""]
 WRONG_BANKS, WRONG_NAMES = ["", "bankdeff", "BANKDEFFXX", "BANKDEFF\n", "\xff"], ["", "a_b", "/T1", "T1\n", "T" * 36]
@@ -63,14 +64,14 @@ class Day:
         self.r, self.pool, self.group, self.calls = r, Pool(r), r.randint(1, 4), []
         self.messages = [self.pool.message() for _ in range(r.randint(3, 40))]
         self.lines = [shuffled(r, message) for message in self.messages]
-        # the last has the number of the first: a second life
-        self.handles = [model.Handle() for _ in range(self.group + 1)]
+        # the last site has the number of the first: a second life. Handles after it are for snapshots
+        self.handles = [model.Handle() for _ in range(self.group + 1 + SNAPSHOTS)]
         self.deltas = [b"delta 2\nend 0\n"]
-        for place in range(len(self.handles)):
+        for place in range(self.group + 1):
             self.call(place, "open", *self.site(place))
         for _ in range(r.randint(40, 160)):
             name = r.choices(list(CALLS), CALLS.values())[0]
-            place = r.randrange(len(self.handles))
+            place = self.place()
             self.call(place, name, *getattr(self, name, list)(*([place] if name in PLACED else [])))
         for place in range(len(self.handles)):
             self.call(place, "close")
@@ -78,9 +79,15 @@ class Day:
     def site(self, place):
         return [place % self.group + 1, self.group]
 
+    def place(self):
+        """The place of a handle, most often of one that is not empty."""
+        place = self.r.randrange(len(self.handles))
+        is_empty = self.handles[place].site is None and self.r.random() < 0.7
+        return self.r.randrange(self.group + 1) if is_empty else place
+
     def call(self, place, name, *arguments):
         """Makes a call: what it must come to is noted. After a refusal the handle is asked why."""
-        found, text = self.handles[place].call(name, *arguments)
+        found, text = model.called(self.handles, place, name, *arguments)
         fields = {field: found[field] for field in driving.FIELDS[name]}
         met = list(self.met_by(name, self.handles[place].site, text or b""))
         self.calls.append(Call((name, place, *arguments), fields, text, met))
@@ -270,6 +277,12 @@ class Day:
     def why(self, place):
         return [self.room(self.handles[place].refused)]
 
+    def snapshot(self, place):
+        """The place of another handle, most often of one that is empty."""
+        others = [other for other in range(len(self.handles)) if other != place]
+        empty = [other for other in others if self.handles[other].site is None]
+        return [self.r.choice(empty if empty and self.r.random() < 0.8 else others)]
+
     def code_name(self):
         return [self.r.choice([self.r.choice(NUMBERS), self.r.randrange(256)]), self.r.choice([0, 6, 200])]
 
@@ -292,7 +305,7 @@ class Day:
 
 # calls whose arguments go by what the handle has
 PLACED = ["accept", "answer", "answer_part", "why", "digest", "entries", "journal_text", "messages_text_for",
-          "newest_text", "open", "restore"]
+          "newest_text", "open", "restore", "snapshot"]
 
 
 def wrong(call, reply):

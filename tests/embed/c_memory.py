@@ -2,11 +2,13 @@
 
 The driver counts the blocks of memory that are held, and their bytes. It has none of its own while it waits for a
 request. Each trial makes a site, uses it in one way and closes it. Some block is held before, and none after. A site is
-also used and closed by a handle to which it was moved. A site that is not made holds nothing.
+also used and closed by a handle to which it was moved. A site that is not made holds nothing. Of a site and its
+snapshots each is the last that is closed in turn. A snapshot that was not asked has few bytes more than its site.
 
 A call that is made again and again, and brings nothing new, keeps no memory: each refusal, each question, a repeat, a
 delta that the site holds. `answer_end` gives back what the answer had.
 """
+import itertools
 from bench.generate import messages, samples
 from tests import harness
 from tests.embed import driving
@@ -17,6 +19,7 @@ BANK, DAY, LIST = b"BANKDEFF", b"2024-05-02", b"DbtrAgt,TxId,Amt,Sts\nBANKDEFF,T
 LINES = "".join(messages.lines(300)).encode() + b"nothing\n{}\n"
 NOTHING = {"blocks": 0, "bytes": 0}
 FEW, MANY, BLOCK = 3, 100, 64
+MANY_LINES, EACH = 40_000, 4  # messages, and the bytes of a snapshot for each of them at most: half an address
 
 TAKES = [("take", 0, instruction(number).encode()) for number in range(1, 9)] + [("take_lines", 0, LINES)]
 ACCEPTS = [("accept", 0, delta(2, 1, 11, 12, 13)), ("accept", 0, delta(3, 1, 21)), ("accept", 0, delta(2, 3, 13, 14))]
@@ -65,15 +68,31 @@ LIVES = {
     "restored of what is wrong": [("restore", 0, 1, 3, b"nothing\n" + LINES, delta(2, 2, 11)), *QUESTIONS],
     "closed and opened again": [OPEN, *TAKES, CLOSE, OPEN, *ACCEPTS],
 }
-NONE_MADE = [("open", 0, 0, 3), ("restore", 0, 4, 3, LINES, delta(2, 1, 2)),
+NONE_MADE = [("open", 0, 0, 3), ("restore", 0, 4, 3, LINES, delta(2, 1, 2)), ("snapshot", 0, 1),
              *(call for call in REFUSED + QUESTIONS if call[0] not in ("open", "restore"))]
 
 
-def held(program, name, requests, close=CLOSE):
-    """Whether memory is held after some requests, and none after the close."""
-    before, _, after = driving.asked(program, [*requests, HELD, close, HELD])[-3:]
-    right = before.fields["blocks"] > 0 and after.fields == NOTHING
-    return reported(f"{name}, then closed", right, f"{before.fields} before, {after.fields} after")
+def on(handle, calls):
+    """Calls on another handle."""
+    return [(name, handle, *words) for name, _, *words in calls]
+
+
+# what is done with a site and two snapshots, of which the second is one of the first
+OF_SNAPSHOTS = {
+    "snapshots that were not asked": [],
+    "snapshots that were asked": [*on(1, QUESTIONS), *on(2, QUESTIONS)],
+    "snapshots that refused": [*on(1, TAKES), *on(1, ACCEPTS), *on(2, REFUSED)],
+    "snapshots of a site that goes on": [*ACCEPTS, *QUESTIONS, *on(2, QUESTIONS),
+                                         ("take", 0, instruction(99).encode())],
+    "snapshots that are not made": [("snapshot", 0, 2), ("snapshot", 1, 0), ("snapshot", 4, 5)]}
+
+
+def held(program, name, requests, *closes):
+    """Whether memory is held after some requests, until the last of some calls that close."""
+    replies = driving.asked(program, [*requests, HELD, *(one for close in closes or [CLOSE] for one in (close, HELD))])
+    *before, after = [reply.fields for reply in replies[len(requests)::2]]
+    right = all(one["blocks"] > 0 for one in before) and after == NOTHING
+    return reported(f"{name}, then closed", right, f"{before} before, {after} after")
 
 
 def moved(requests):
@@ -92,16 +111,37 @@ def closed(program):
     yield held(program, "moved before each call", [OPEN, *moved(life)], ("close", len(life)))
     found = driving.asked(program, [*NONE_MADE, HELD])[-1].fields
     yield reported("a site that is not made", found == NOTHING, f"{found}")
+    for name, calls in OF_SNAPSHOTS.items():
+        begin = [OPEN, *TAKES, ("snapshot", 0, 1), ("snapshot", 1, 2), *calls]
+        for order in itertools.permutations(range(3)):
+            yield held(program, f"{name}, {order}", begin, *(("close", handle) for handle in order))
+
+
+def few_bytes(program):
+    """Whether a snapshot has few bytes of its own until it is asked, and gives back what it has then."""
+    lines = "".join(messages.lines(MANY_LINES)).encode()
+    requests = [OPEN, ("take_lines", 0, lines), ("status_text", 0), HELD, ("snapshot", 0, 1), HELD,
+                ("status_text", 1), HELD, ("close", 1), HELD]
+    replies = driving.asked(program, requests)
+    before, made, asked, after = [reply.fields["bytes"] for reply in replies[3::2]]
+    is_whole = replies[1].fields["fresh"] == MANY_LINES and replies[6].text == replies[2].text
+    right = is_whole and 0 < made - before < EACH * MANY_LINES < asked - made and abs(after - before) <= BLOCK
+    return reported(f"a snapshot of {MANY_LINES} messages has {made - before} bytes, and {asked - made} more when "
+                    "asked",
+                    right, f"{after - before} bytes are left")
 
 
 def steady(program):
     """Whether as much is held after many times of a call as after a few. A block has some bytes more if no smaller one
     is free."""
-    begin = [OPEN, *TAKES, *ACCEPTS, *QUESTIONS]
-    for number, call in enumerate([*REFUSED, *REPEATS, *QUESTIONS], 1):
-        few, many = (driving.asked(program, [*begin, *[call] * times, HELD])[-1].fields for times in (FEW, MANY))
+    begin = [OPEN, *TAKES, *ACCEPTS, *QUESTIONS, ("snapshot", 0, 3), *on(3, QUESTIONS)]
+    steps = [[call] for call in [*REFUSED, *REPEATS, *QUESTIONS, *on(3, REPEATS), ("snapshot", 0, 3)]]
+    steps += [[("snapshot", 0, 1), ("close", 1)], [("snapshot", 3, 1), *on(1, QUESTIONS), ("close", 1)]]
+    for number, calls in enumerate(steps, 1):
+        few, many = (driving.asked(program, [*begin, *calls * times, HELD])[-1].fields for times in (FEW, MANY))
         right = few["blocks"] == many["blocks"] and many["bytes"] <= few["bytes"] + BLOCK
-        yield reported(f"call {number}, {call[0]}, {FEW} and {MANY} times", right, f"{few}, then {many}")
+        name = " and ".join(sorted({call[0] for call in calls})) if len(calls) < 3 else "questions to a snapshot"
+        yield reported(f"step {number}, {name}, {FEW} and {MANY} times", right, f"{few}, then {many}")
 
 
 def ended(program):
@@ -116,7 +156,8 @@ def main():
     driving.end_if_missing()
     with driving.libraries() as folder:
         program = driving.built_driver(folder)
-        harness.end_of([*closed(program), *steady(program), ended(program)])
+        found = [*closed(program), *steady(program), ended(program)]
+        harness.end_of(found if driving.stands_in() else [*found, few_bytes(program)])
 
 
 if __name__ == "__main__":

@@ -1,8 +1,10 @@
-"""c_threads.py: threads with a site each take, exchange and answer side by side, in 256 KB of stack each.
+"""c_threads.py: threads with a site each take, exchange and answer side by side, and threads ask snapshots of a site
+that takes, in 256 KB of stack each.
 
-threads.c runs three and two sites of hub-morning, round after round. Each text is the right one. It runs under the
-address sanitizer, and a few rounds under the thread checker of valgrind, which has to find nothing, and under its
-memory checker.
+threads.c runs three and two sites of hub-morning, round after round. Each text is the right one. snapshots.c has one
+thread take messages, and others ask snapshots, which are closed before and after their site. It compares each answer
+with that of the first messages. Both run under the address sanitizer and under the thread sanitizer, and shorter under
+the thread checker of valgrind, which has to find nothing, and under its memory checker.
 """
 import shutil
 from tests import harness
@@ -11,6 +13,10 @@ from tests.harness import EXAMPLES, reported
 from tests.oracle import status
 
 ROUNDS, FEW = 200, 2
+ASKERS = 3
+MESSAGES, FEW_MESSAGES = 6000, 400  # the first of them are more than a sealed block of the site has
+OF_STAND_IN = 60
+RACES = ["-O1", "-g", "-fsanitize=thread"]
 HELGRIND = ["valgrind", "--quiet", "--tool=helgrind", "--error-exitcode=9"]
 
 
@@ -34,16 +40,34 @@ def rounds(name, program, many, files, before=()):
                     answer.errors.decode(errors="replace")[:4000])
 
 
+def snapshots(name, program, many, before=()):
+    """Whether threads are right about the snapshots of a site that takes so many messages. Each has some of them twice
+    at least, as snapshots.c has it."""
+    many = OF_STAND_IN if driving.stands_in() else many
+    answer = harness.run([*before, program, str(ASKERS), str(many)])
+    right = (answer.errors, answer.status) == (b"", 0) and int(answer.text) >= 2 * ASKERS
+    return reported(f"{ASKERS} threads ask snapshots while one takes {many} messages, {name}", right,
+                    answer.errors.decode(errors="replace")[:4000] or f"{answer}")
+
+
 def main():
     driving.end_if_missing()
     three = sorted(EXAMPLES.glob("hub-morning.site*"))
     with driving.libraries() as folder:
-        checked = driving.built(folder, driving.SOURCES / "threads.c", *driving.CHECKED, name="checked", wraps=())
-        plain = driving.built(folder, driving.SOURCES / "threads.c", "-O1", "-g", wraps=())
-        done = [rounds("under the address sanitizer", checked, ROUNDS, files) for files in (three, three[:2])]
+        def built(name, words):
+            return [driving.built(folder, driving.SOURCES / f"{source}.c", *words, name=f"{source}_{name}", wraps=())
+                    for source in ("threads", "snapshots")]
+
+        plain, asking = built("plain", ["-O1", "-g"])
+        done = []
+        for name, words in ("address", driving.CHECKED), ("thread", RACES):
+            exchanging, asking_it = built(name, words)
+            done += [rounds(f"under the {name} sanitizer", exchanging, ROUNDS, files) for files in (three, three[:2])]
+            done.append(snapshots(f"under the {name} sanitizer", asking_it, MESSAGES))
         if shutil.which("valgrind"):
-            done += [rounds(f"under {before[0]} {before[2]}", plain, FEW, three, before)
-                     for before in (HELGRIND, driving.VALGRIND)]
+            for before in (HELGRIND, driving.VALGRIND):
+                done.append(rounds(f"under {before[0]} {before[2]}", plain, FEW, three, before))
+                done.append(snapshots(f"under {before[0]} {before[2]}", asking, FEW_MESSAGES, before))
         else:
             print("skipped: there is no command valgrind on this machine: apt-get install valgrind", flush=True)
     harness.end_of(done)

@@ -5,6 +5,7 @@
  * often the call asked for memory, how often it was refused, and how many bytes follow: what the call copied or wrote, or its answer.
  *
  *     refuse 0 FIRST LAST    refuses what the next call asks for from its time FIRST on up to its time LAST
+ *     snapshot HANDLE TO     the handle TO has a snapshot of the site
  *     held 0                 how many blocks of memory the library has, and their bytes. The driver has none while it waits for a request
  *     move HANDLE FROM       the site of the handle FROM is at HANDLE from now on, and FROM is empty
  *     stack 0                the most bytes of the stack that were used so far; not under valgrind
@@ -48,6 +49,7 @@ static const struct form {
 } forms[] = {
     {"open", 2, 0, false},        {"restore", 2, 2, true},       {"close", 0, 0, false},        {"take", 0, 1, false},
     {"take_lines", 0, 1, true},   {"accept", 0, 1, false},       {"counts", 1, 0, false},       {"vector_text", 0, 0, true},
+    {"snapshot", 1, 0, false},
     {"cut", 0, 1, true},          {"cut_above", 0, 1, true},     {"entries", 3, 0, true},
     {"digest", 2, 0, true},       {"digests_text", 0, 0, true},
     {"journal_text", 1, 0, true}, {"newest_text", 1, 0, true},
@@ -203,10 +205,17 @@ static struct bytes answer_of(sct_site *site, size_t length) {
 
 static bool is(const char *name, const char *other) { return strcmp(name, other) == 0; }
 
+/* Another handle than one, which a request names. */
+static sct_site *other_than(const sct_site *site, size_t handle) {
+    must(handle < HANDLES && site != &handles[handle], "there is no such other handle");
+    return &handles[handle];
+}
+
 /* A call that returns an outcome and writes nothing. */
 static sct_outcome outcome_of(const char *name, sct_site *site, const unsigned long *n, const struct bytes *t) {
     if (is(name, "restore"))
         return sct_site_restore(site, (uint16_t)n[0], (uint16_t)n[1], t[0].at, t[0].length, t[1].at, t[1].length);
+    if (is(name, "snapshot")) return sct_site_snapshot(site, other_than(site, n[0]));
     if (is(name, "vector_text")) return sct_site_vector_text(site);
     if (is(name, "cut")) return sct_site_cut(site, t[0].at, t[0].length);
     if (is(name, "cut_above")) return sct_site_cut_above(site, (const uint64_t *)(void *)t[0].at, t[0].length / sizeof(uint64_t));
@@ -340,9 +349,9 @@ static struct result called(const char *name, sct_site *site, const unsigned lon
 
 /* The site of one handle goes to another, which is empty. */
 static struct result moved(sct_site *site, size_t from) {
-    must(from < HANDLES && site != &handles[from], "there is no such handle to move from");
-    memcpy(site, &handles[from], sizeof *site);
-    memset(&handles[from], 0, sizeof *site);
+    sct_site *old = other_than(site, from);
+    memcpy(site, old, sizeof *site);
+    memset(old, 0, sizeof *site);
     return (struct result){{0}, 0, {NULL, 0}};
 }
 

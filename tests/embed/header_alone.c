@@ -256,6 +256,14 @@ static void close_site(struct life *life) {
     printf("0 0\n");
 }
 
+static sct_outcome snapshot(struct life *life, struct life *other) {
+    uint64_t place = (uint64_t)other->number;
+    write_call("snapshot", life->number, 1, &place, 0, NULL);
+    sct_outcome made = sct_site_snapshot(&life->site, &other->site);
+    written(life, made, none);
+    return made;
+}
+
 static sct_taken took(struct life *life, sct_taken taken) {
     printf("%d %d %d %" PRIu64 " %" PRIu64 " %" PRIu64 " ", taken.ok, taken.code, taken.is_repeat, taken.place, taken.number,
            taken.reserved);
@@ -556,9 +564,21 @@ static void question(struct life *life) {
     }
 }
 
-static void step(struct life *lives, uint16_t group, const char *folder) {
-    struct life *life = &lives[below(group)], *other = &lives[below(group)];
-    switch (below(8)) {
+/* A site has a snapshot made in the place of its own, if there is none yet. The snapshot is asked, and takes nothing. It may end. */
+static void look(struct life *life, struct life *held) {
+    sct_outcome made = snapshot(life, held);
+    must(made.ok || made.code == SCT_FULL, "a snapshot is refused");
+    for (uint64_t left = below(3); left > 0; left--) question(held);
+    must(take(held, life->lines).code == SCT_SNAPSHOT, "a snapshot takes a message");
+    must(accept(held, life->count > 0 ? life->waiting[0] : none).code == SCT_SNAPSHOT, "a snapshot accepts a delta");
+    if (below(3) == 0) close_site(held);
+}
+
+static void step(struct life *lives, struct life *held, uint16_t group, const char *folder) {
+    uint64_t which = below(group);
+    struct life *life = &lives[which], *other = &lives[below(group)];
+    switch (below(9)) {
+    case 8: look(life, &held[which]); break;
     case 0: take_some(life, folder, 4); break;
     case 1: case 2: give(life, other, group); break;
     case 3: case 4: case 5: deliver(life); break;
@@ -634,7 +654,7 @@ static void end_life(struct life *life) {
 }
 
 static int hub_of(int words, char **word) {
-    static struct life lives[MOST_SITES]; /* static, and so all handles are SCT_SITE_EMPTY */
+    static struct life lives[MOST_SITES], held[MOST_SITES]; /* static, and so all handles are SCT_SITE_EMPTY. A snapshot is of a site */
     int group = words - 6;
     must(group >= 1 && group <= MOST_SITES, "usage: header_alone hub SEED STEPS FOLDER OTHER FILE..");
     drawn = strtoull(word[2], NULL, 10);
@@ -642,17 +662,22 @@ static int hub_of(int words, char **word) {
     for (int place = 0; place < group; place++) {
         lives[place].number = place + 1;
         must(read_file(word[6 + place], &lives[place].lines), "a file cannot be read");
+        held[place].number = place + 100;
+        held[place].lines = copy_of(lives[place].lines.at, lives[place].lines.length);
         open_site(&lives[place], (uint16_t)group);
         keep_journal(&lives[place], folder);
     }
-    for (long left = atol(word[3]); left > 0; left--) step(lives, (uint16_t)group, folder);
+    for (long left = atol(word[3]); left > 0; left--) step(lives, held, (uint16_t)group, folder);
     bring_together(lives, group, folder);
     must_agree(lives, group, "vector_text", vector_of);
     must_agree(lives, group, "archive_text", archive_of);
     for (int place = 0; place < group; place++) fork_site(lives, group, place, (struct text){(uint8_t *)word[5], strlen(word[5])});
     must_agree(lives, group, "archive_text", archive_of);
     must_agree(lives, group, "status_text", status_of);
-    for (int place = 0; place < group; place++) end_life(&lives[place]);
+    for (int place = 0; place < group; place++) {
+        end_life(&lives[place]);
+        end_life(&held[place]);
+    }
     return 0;
 }
 

@@ -9,12 +9,14 @@
 #include <sstream>
 #include <stdexcept>
 #include <string>
+#include <thread>
 #include <utility>
 #include <vector>
 
 namespace {
 
 using niluppang::site;
+using niluppang::site_snapshot;
 using std::string;
 
 void must(bool holds, const char *what) {
@@ -124,42 +126,15 @@ string bytes(const std::vector<uint64_t> &counts) {
 using Numbers = std::vector<uint64_t>;
 using Texts = std::vector<string>;
 
-// A site, and what is on the disk of its machine.
-class Life {
+// What a site or a snapshot is asked.
+template <typename Its> class Asked {
   public:
-    Life(int its_number, string its_lines, const string &folder)
-        : kept(0), taken(0), number(its_number), lines(std::move(its_lines)), path(folder + "/journal" + std::to_string(its_number)) {}
+    explicit Asked(int its_number) : number(its_number) {}
 
-    void open(uint16_t which, uint16_t group) {
-        call("open", {which, group}, {});
-        result(fields(its_.open(which, group)), "");
-    }
-    string restore(uint16_t which, uint16_t group, const string &journal, const string &delta) {
-        return asked("restore", {which, group}, {journal, delta}, [&] { return its_.restore(which, group, journal, delta); });
-    }
     void close() {
         call("close", {}, {});
         its_.close();
         result("", "");
-    }
-    sct_taken take(const string &line) {
-        call("take", {}, {line});
-        return took(its_.take(line));
-    }
-    sct_taken take_as(const string &banks, const string &line) {
-        call("take_as", {}, {banks, line});
-        return took(its_.take_as(banks, line));
-    }
-    void take_lines(const string &text) {
-        call("take_lines", {}, {text});
-        const sct_lines it = its_.take_lines(text);
-        result(fields({it.ok, it.code, it.place, it.fresh, it.repeats, it.refused, it.length, it.reserved}), its_.answer());
-    }
-    sct_accepted accept(const string &delta) {
-        call("accept", {}, {delta});
-        const sct_accepted it = its_.accept(delta);
-        result(fields({it.ok, it.code, it.place, it.fresh, it.reserved}), "");
-        return it;
     }
     Numbers counts(std::size_t items) {
         Numbers found(items);
@@ -191,7 +166,6 @@ class Life {
     string status_text() { return asked("status_text", {}, {}, [&] { return its_.status_text(); }); }
     string totals_text() { return asked("totals_text", {}, {}, [&] { return its_.totals_text(); }); }
     string contradictions_text() { return asked("contradictions_text", {}, {}, [&] { return its_.contradictions_text(); }); }
-    string changes() { return asked("changes", {}, {}, [&] { return its_.changes(); }); }
     string answer_end() { return asked("answer_end", {}, {}, [&] { return its_.answer_end(); }); }
     string bank_totals(const string &bank) { return asked("bank_totals", {}, {bank}, [&] { return its_.bank_totals(bank); }); }
     string kept_text(const string &day) { return asked("kept_text", {}, {day}, [&] { return its_.kept_text(day); }); }
@@ -219,25 +193,10 @@ class Life {
     }
     string why() { return its_.why(); }
 
-    // The site goes to another object, to one whose own site ends by that, and comes back.
-    void move() {
-        site other(std::move(its_)), third;
-        must(third.open(1, 1).ok, "a site is not opened");
-        third = std::move(other);
-        must(!its_.evaluate().ok && !other.evaluate().ok, "a site is in two objects");
-        must(sct_site_answer(third.get(), nullptr, 0).ok, "a site is lost");
-        its_ = std::move(third);
-    }
-
-    uint64_t kept;                 // how many lines its journal has
-    std::size_t taken;             // how many bytes of its lines it took
     const int number;
-    const string lines, path;
-    string whole;                  // a cut of everything
-    Texts waiting;                 // deltas that came
 
-  private:
-    site its_;
+  protected:
+    Its its_;
 
     void call(const string &name, const Numbers &numbers, const Texts &texts) {
         string line = name + " " + std::to_string(number);
@@ -247,14 +206,14 @@ class Life {
         for (const string &text : texts) line += text;
         std::fwrite(line.data(), 1, line.size(), stdout);
     }
-    sct_taken took(const sct_taken it) {
-        result(fields({it.ok, it.code, it.is_repeat, it.place, it.number, it.reserved}), "");
-        return it;
-    }
     void result(const string &its_fields, const string &text) {
         const string why_text = its_.why();
         const string line = its_fields + std::to_string(text.size()) + " " + std::to_string(why_text.size()) + "\n" + text + why_text;
         std::fwrite(line.data(), 1, line.size(), stdout);
+    }
+    sct_taken took(const sct_taken it) {
+        result(fields({it.ok, it.code, it.is_repeat, it.place, it.number, it.reserved}), "");
+        return it;
     }
     template <typename Question> string asked(const string &name, const Numbers &numbers, const Texts &texts, Question question) {
         call(name, numbers, texts);
@@ -279,6 +238,90 @@ class Life {
     }
 };
 
+// A snapshot of a site.
+class Held : public Asked<site_snapshot> {
+  public:
+    explicit Held(int its_number) : Asked(its_number) {}
+
+    site_snapshot &object() { return its_; }
+
+    // In C++ it has no call that takes.
+    void refuse() {
+        call("take", {}, {""});
+        must(took(sct_site_take(its_.get(), nullptr, 0)).code == SCT_SNAPSHOT, "a snapshot takes a message");
+    }
+};
+
+// A site, and what is on the disk of its machine.
+class Life : public Asked<site> {
+  public:
+    Life(int its_number, string its_lines, const string &folder)
+        : Asked(its_number), kept(0), taken(0), lines(std::move(its_lines)), path(folder + "/journal" + std::to_string(its_number)) {}
+
+    void open(uint16_t which, uint16_t group) {
+        call("open", {which, group}, {});
+        result(fields(its_.open(which, group)), "");
+    }
+    string restore(uint16_t which, uint16_t group, const string &journal, const string &delta) {
+        return asked("restore", {which, group}, {journal, delta}, [&] { return its_.restore(which, group, journal, delta); });
+    }
+    sct_taken take(const string &line) {
+        call("take", {}, {line});
+        return took(its_.take(line));
+    }
+    sct_taken take_as(const string &banks, const string &line) {
+        call("take_as", {}, {banks, line});
+        return took(its_.take_as(banks, line));
+    }
+    void take_lines(const string &text) {
+        call("take_lines", {}, {text});
+        const sct_lines it = its_.take_lines(text);
+        result(fields({it.ok, it.code, it.place, it.fresh, it.repeats, it.refused, it.length, it.reserved}), its_.answer());
+    }
+    sct_accepted accept(const string &delta) {
+        call("accept", {}, {delta});
+        const sct_accepted it = its_.accept(delta);
+        result(fields({it.ok, it.code, it.place, it.fresh, it.reserved}), "");
+        return it;
+    }
+    string changes() { return asked("changes", {}, {}, [&] { return its_.changes(); }); }
+    sct_outcome snapshot(Held &held) {
+        call("snapshot", {static_cast<uint64_t>(held.number)}, {});
+        const sct_outcome it = its_.snapshot(held.object());
+        result(fields(it), "");
+        return it;
+    }
+
+    // What a thread finds that asks a snapshot while the site takes a line.
+    string beside(const string &line) {
+        site_snapshot now, later;
+        must(its_.snapshot(now).ok && now.snapshot(later).ok, "a snapshot is refused");
+        now = std::move(later);
+        string found;
+        std::thread asking([&found](site_snapshot its) { found = its.status_text().ok ? its.answer() : its.why(); }, std::move(now));
+        take(line);
+        asking.join();
+        must(!now.evaluate().ok && !later.evaluate().ok, "a snapshot is in two objects");
+        return found;
+    }
+
+    // The site goes to another object, to one whose own site ends by that, and comes back.
+    void move() {
+        site other(std::move(its_)), third;
+        must(third.open(1, 1).ok, "a site is not opened");
+        third = std::move(other);
+        must(!its_.evaluate().ok && !other.evaluate().ok, "a site is in two objects");
+        must(sct_site_answer(third.get(), nullptr, 0).ok, "a site is lost");
+        its_ = std::move(third);
+    }
+
+    uint64_t kept;                 // how many lines its journal has
+    std::size_t taken;             // how many bytes of its lines it took
+    const string lines, path;
+    string whole;                  // a cut of everything
+    Texts waiting;                 // deltas that came
+};
+
 // ---- what happens at a hub
 
 class Hub {
@@ -291,6 +334,7 @@ class Hub {
             must(read_file(words[place], lines), "a file cannot be read");
             lives_.emplace_back(new Life(static_cast<int>(place) - 4, lines, folder_));
             lives_.back()->open(static_cast<uint16_t>(place - 4), group_);
+            held_.emplace_back(new Held(static_cast<int>(place) + 95));
             keep_journal(*lives_.back());
         }
     }
@@ -301,6 +345,8 @@ class Hub {
         for (auto &life : lives_) fork(*life);
         agree([](Life &life) { return life.archive_text() + life.totals_text() + life.status_text(); });
         for (auto &life : lives_) life->close();
+        for (auto &held : held_) held->status_text();
+        for (auto &held : held_) held->close();
     }
 
   private:
@@ -308,6 +354,7 @@ class Hub {
     string folder_, other_;
     uint16_t group_;
     std::vector<std::unique_ptr<Life>> lives_;
+    std::vector<std::unique_ptr<Held>> held_;  // a snapshot of each
 
     std::size_t below(std::size_t most) { return chance_() % most; }
     Life &any() { return *lives_[below(lives_.size())]; }
@@ -374,7 +421,7 @@ class Hub {
         const Texts lists = {"HANSDEHH", "LUTEFRPP,SCALBEBB", "MEUSNL2R,RHEIDE3KXXX,SUOMFIHH", "RHEIDE3K370,ALPEATWW", ",HANSDEHH"};
         return lists[below(lists.size())];
     }
-    void ask_for_banks(Life &life) {
+    template <typename Its> void ask_for_banks(Asked<Its> &life) {
         switch (below(4)) {
         case 0: life.transfer_text_for(banks(), "RHEIDE3K", "RK-77"); break;
         case 1: life.messages_text_for(banks(), "RHEIDE3K", "RK-77"); break;
@@ -399,9 +446,23 @@ class Hub {
         default: life.whole = life.cut("-");
         }
     }
+    // A snapshot is made where there is none, and asked. It may end.
+    void look(Life &life) {
+        Held &held = *held_[static_cast<std::size_t>(life.number) - 1];
+        const string then = life.status_text();
+        must(life.beside(next_lines(life, 1)) == then, "a thread finds another status text in a snapshot");
+        keep_journal(life);
+        if (life.snapshot(held).ok) must(held.status_text() == life.status_text() && held.number != life.number, "a snapshot differs");
+        ask_for_banks(held);
+        held.kept_text("2025-03-11");
+        held.cut("-");
+        held.refuse();
+        if (below(2)) held.close();
+    }
     void step() {
         Life &life = any();
-        switch (below(9)) {
+        switch (below(10)) {
+        case 9: look(life); break;
         case 0: take(life); break;
         case 1: case 2: give(life, any()); break;
         case 3: case 4: case 5: deliver(life); break;

@@ -28,6 +28,7 @@ FILES = sorted(EXAMPLES.glob("hub-morning.site*"))
 CASES = DATA / "exchange"
 OTHER = samples.line(samples.instruction(MsgId="OTHER", TxId="OTHER")).strip()
 SEEDS, STEPS, RUNS = (1, 2, 3, 4), 250, 30
+OF_SNAPSHOTS = 100  # the least number by which a hub calls the handle of a snapshot
 COMPILERS = {"header_alone.c": ["gcc", "clang"], "header_alone.cc": ["g++", "clang++"],
              "nulls.c": ["gcc", "clang", "g++", "clang++"]}
 MORE = ["-Wshadow", "-Wconversion"]
@@ -37,8 +38,10 @@ TO_MEET = ["open", "restore", "close", "take", "take_lines", "accept", "counts",
            "journal_text", "newest_text", "reading_text", "evaluate", "changes", "answer_end", "status_text",
            "archive_text", "kept_text", "closed_text",
            "take_as", "transfer_text_for", "messages_text_for", "bank_totals_for", "report_for",
-           "refused 41", "refused 42", "refused 43", "refused 45", "refused 73", "refused 79", "refused 80", "refused 83",
-           "a repeat", "a delta again", "a cut that was kept"]
+           "refused 41", "refused 42", "refused 43", "refused 45", "refused 73", "refused 79", "refused 81",
+           "refused 84",
+           "snapshot", "refused 71", "refused 85", "a question to a snapshot", "a repeat", "a delta again",
+           "a cut that was kept"]
 
 
 def programs(folder, source):
@@ -103,18 +106,19 @@ class Transcript:
         name, site, *words = self.words()
         arguments = [self.bytes(int(word[1:])) if word.startswith("=") else int(word) for word in words]
         *fields, length, why = map(int, self.words())
-        return Call(name, site, arguments, dict(zip(driving.FIELDS[name], fields)), self.bytes(length), self.bytes(why))
+        result = dict(zip(driving.FIELDS[name], fields))
+        return Call(name, int(site), arguments, result, self.bytes(length), self.bytes(why))
 
     def calls(self):
         while self.place < len(self.data):
             yield self.call()
 
 
-def wrong(handle, call):
+def wrong(handles, call):
     """What differs of a call, or None."""
     arguments = [driving.counts_in(text) for text in call.arguments] if call.name == "cut_above" else call.arguments
-    fields, text = handle.call(call.name, *arguments)
-    why = handle.call("why", 1 << 20)[1]
+    fields, text = model.called(handles, call.site, call.name, *arguments)
+    why = handles[call.site].call("why", 1 << 20)[1]
     wanted = {field: fields[field] for field in driving.FIELDS[call.name]}
     if (wanted, text or b"", why or b"") != (call.fields, call.text, call.why):
         return f"{call}\n wanted {wanted} {text} {why}"
@@ -132,17 +136,20 @@ def met_by(call):
         yield "a delta again"
     if call.name == "restore" and call.arguments[3]:
         yield "a cut that was kept"
+    if call.site >= OF_SNAPSHOTS and call.name in ("status_text", "cut", "kept_text"):
+        yield "a question to a snapshot"
 
 
 def differences(calls):
     """What is wrong with the calls of a hub."""
     handles = collections.defaultdict(model.Handle)
-    return [text for text in (wrong(handles[call.site], call) for call in calls) if text]
+    return [text for text in (wrong(handles, call) for call in calls) if text]
 
 
 def are_last_answers(calls):
     """Whether the last answers are those of the example."""
-    last = {call.name: call.text for call in calls if call.name in ("archive_text", "status_text")}
+    last = {call.name: call.text for call in calls if call.name in ("archive_text", "status_text")
+            and call.site < OF_SNAPSHOTS}
     status = last.get("status_text", b"")
     return [last["archive_text"], status[-len(in_example("run")):]] == [in_example("archive"), in_example("run")]
 

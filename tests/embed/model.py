@@ -39,19 +39,25 @@ CODES = {31: ("NotJson", "the bytes are not one JSON text in UTF-8"),
          73: ("BadArgument",
               "a bank, an identification, a day, an origin, a count or a size is not valid: the place is that of "
               "the argument, from 1"), 79: ("NotYours", "the bank is none of the banks that ask"),
-         80: ("NotSender", "the sender of the message is none of the banks in whose name it is sent"),
-         81: ("NotOriginator", "the originator bank of the transaction at the place is none of the banks"),
-         82: ("NotBeneficiary", "the beneficiary bank of each instruction on the transfer is none of the banks"),
-         83: ("Waits",
-              "no instruction on the transfer is held yet; the call can be made again when there is one")}
-PLACED = {45, 46, 48, 56, 73, 81}  # the numbers that a place follows
-VERDICTS = {"NotSender": 80, "NotOriginator": 81, "NotBeneficiary": 82, "Waits": 83}
+         81: ("NotSender", "the sender of the message is none of the banks in whose name it is sent"),
+         82: ("NotOriginator", "the originator bank of the transaction at the place is none of the banks"),
+         83: ("NotBeneficiary", "the beneficiary bank of each instruction on the transfer is none of the banks"),
+         84: ("Waits",
+              "no instruction on the transfer is held yet; the call can be made again when there is one"),
+         85: ("Snapshot", "the handle has a snapshot of a site, which takes nothing")}
+PLACED = {45, 46, 48, 56, 73, 82}  # the numbers that a place follows
+VERDICTS = {"NotSender": 81, "NotOriginator": 82, "NotBeneficiary": 83, "Waits": 84}
 
 # all fields that a result may have
 FIELDS = ["place", "length", "is_repeat", "number", "fresh", "repeats", "refused", "reserved"]
-# the calls that need no site, and those after which the site says the same of why
+# the calls that a snapshot refuses
+TAKING = {"take", "take_as", "take_lines", "accept"}
+# the calls that need no site, and those after which the site says the same of why, as after a call refused by 71
 WITHOUT_SITE = {"open", "restore", "close", "code_name", "code_text"}
 SILENT = WITHOUT_SITE | {"counts", "answer", "answer_part", "answer_end", "why"}
+
+
+FULL = 71
 
 
 class Refusal(Exception):
@@ -122,6 +128,14 @@ class Site(exchange.Site):
         super().hold(origin, message)
         self.arrivals.append(message)
 
+    def copy(self):
+        """A site that holds the same."""
+        its = Site(self.own, self.group)
+        its.logs.update((origin, list(log)) for origin, log in self.logs.items())
+        its.messages.update(self.messages)
+        its.arrivals += self.arrivals
+        return its
+
     def join(self, text):
         """Accepts a delta text."""
         try:
@@ -161,6 +175,7 @@ class Handle:
 
     def __init__(self):
         self.site, self.answer, self.refused, self.watched, self.journal = None, b"", b"", None, []
+        self.is_snapshot = False
 
     def call(self, name, *arguments):
         """The fields of the result of a call, and the text that it makes or copies, or None."""
@@ -168,12 +183,14 @@ class Handle:
         try:
             if self.site is None and name not in WITHOUT_SITE:
                 raise Refusal("70")
+            if self.is_snapshot and name in TAKING:
+                raise Refusal("85")
             found, text = getattr(self, "copied" if name == "answer" else name)(*arguments)
             fields, why = {"ok": 1, "code": 0, **fields, **found}, b""
         except Refusal as refusal:
             fields, why, text = ({**fields, "ok": 0, "code": refusal.code, "place": refusal.place},
                                  str(refusal).encode(), None)
-        if name not in SILENT:
+        if name not in SILENT and fields["code"] != FULL:
             self.refused = why
         return fields, text
 
@@ -187,8 +204,12 @@ class Handle:
             raise Refusal("71")
         if not 1 <= number <= group <= exchange.MOST_SITES:
             raise Refusal("44")
-        self.site = Site(number, group)
-        self.answer, self.refused, self.watched, self.journal = b"", b"", None, []
+        self.hold(Site(number, group), [], False)
+
+    def hold(self, site, journal, is_snapshot):
+        """Has a site, or a snapshot of one, with its journal. No call was made on it."""
+        self.site, self.journal, self.is_snapshot = site, journal, is_snapshot
+        self.answer, self.refused, self.watched = b"", b"", None
 
     def open(self, number, group):
         self.begin(number, group)
@@ -207,6 +228,13 @@ class Handle:
 
     def close(self):
         self.site = None
+        return {}, None
+
+    def snapshot(self, other):
+        """Another handle has a snapshot of the site from now on."""
+        if other.site is not None:
+            raise Refusal("71")
+        other.hold(self.site.copy(), list(self.journal), True)
         return {}, None
 
     def starved(self):
@@ -390,6 +418,11 @@ class Handle:
 
     def code_text(self, code, room):
         return whole(CODES.get(code, ("", ""))[1].encode(), room)
+
+
+def called(handles, place, name, *arguments):
+    """What a call comes to on one of some handles. The argument of `snapshot` is the place of another one."""
+    return handles[place].call(name, *([handles[other] for other in arguments] if name == "snapshot" else arguments))
 
 
 def whole(text, room):

@@ -37,7 +37,7 @@ print(library()._name, file=sys.stderr)
 USE = """from typing import Iterator, List, Optional
 from mmap import mmap
 from niluppang import BytesSite, Closed, DeltaRefused, LinesTaken, MessageRefused, NiluppangError, OutOfMemory, Refused, Site
-from niluppang import NotYours, Transfer, Waits, Withheld
+from niluppang import NotYours, Questions, Snapshot, Transfer, Waits, Withheld
 with Site.restore(1, 3, b"", "delta 2\\nend 0\\n") as site, BytesSite(2, 3) as twin, mmap(-1, 2) as mapped:
     split: str = site.kept_text("2024-05-02") + site.closed_text(b"2024-05-02")
     text: str = site.status_text() + site.journal(1) + site.newest(2) + site.reading(mapped) + site.answer()
@@ -50,17 +50,24 @@ with Site.restore(1, 3, b"", "delta 2\\nend 0\\n") as site, BytesSite(2, 3) as t
     restored: Site = site
     lines: Iterator[str] = site.status_lines()
     parts: Iterator[bytes] = twin.cut_lines("-")
+    with site.snapshot() as held, twin.snapshot() as again:
+        of_text: Snapshot[str] = held.snapshot()
+        asked: List[Questions[str]] = [site, held, of_text]
+        then: str = of_text.totals_text() + "".join(one.cut("-") for one in asked)
+        of_bytes: bytes = again.archive_text() + again.report_for("BANKDEFF", "BANKDEFF", "2024-05-02", b"")
+        of_text.close()
     is_over: bool = site.is_closed or site.number == site.group
     site.evaluate()
     site.answer_end()
 errors: List[NiluppangError] = [Refused(44), MessageRefused(56, 2, "56 2 34 Rsn"), DeltaRefused(41), OutOfMemory(65), Closed(70)]
-values: List[ValueError] = [Refused(44), MessageRefused(31), DeltaRefused(45), NotYours(79), Waits(83)]
-withheld: List[Withheld] = [Withheld(80), Waits(83)]
-waited_for: Optional[Transfer] = Waits(83).transfer
+values: List[ValueError] = [Refused(44), MessageRefused(31), DeltaRefused(45), NotYours(79), Waits(84)]
+withheld: List[Withheld] = [Withheld(81), Waits(84)]
+waited_for: Optional[Transfer] = Waits(84).transfer
 reasons: List[str] = [error.reason + error.name + error.meaning for error in errors if error.number or error.place]
 """
 WRONG = ["site.number = 2", "site.is_closed = True", "site.take(5)", "text: bytes = site.status_text()",
-         "site.journal('1')", "site.take_as(['BANKDEFF'], b'{}')"]
+         "site.journal('1')", "site.take_as(['BANKDEFF'], b'{}')", "site.snapshot().take(b'{}')",
+         "site.snapshot().changes()", "data: bytes = site.snapshot().status_text()", "site = site.snapshot()"]
 
 
 @contextlib.contextmanager

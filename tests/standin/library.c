@@ -201,25 +201,28 @@ static sct_outcome made_of(sct_site *site, const char *call, struct texts texts)
     return outcome(made(site, call, zero, texts));
 }
 
+/* A new site for a handle, which has an answer. Its number is that of the process. */
+static void fill(sct_site *site, struct reply it) {
+    struct held *held = calloc(1, sizeof *held);
+    must(held != 0);
+    held->number = sites;
+    held->answer = it.text;
+    held->length = it.size;
+    site->private_is_full = true;
+    site->private_address = held;
+}
+
 static sct_outcome begun(sct_site *site, const char *call, uint16_t number, uint16_t group, struct texts texts) {
     const struct numbers numbers = {number, group, 0};
     struct reply it;
-    struct held *held;
     if (site->private_is_full) return outcome(refused(SCT_FULL));
     if (is_out_of_memory()) return outcome(refused(SCT_MEMORY));
     pthread_mutex_lock(&lock);
-    held = calloc(1, sizeof *held);
-    must(held != 0);
-    held->number = ++sites;
-    it = asked(call, held->number, numbers, texts);
-    held->answer = it.text;
-    held->length = it.size;
-    site->private_is_full = it.ok;
-    site->private_address = it.ok ? held : 0;
-    if (!it.ok) {
+    it = asked(call, ++sites, numbers, texts);
+    if (it.ok)
+        fill(site, it);
+    else
         free(it.text);
-        free(held);
-    }
     pthread_mutex_unlock(&lock);
     return outcome(it);
 }
@@ -265,6 +268,21 @@ sct_accepted sct_raw_accept(sct_site *site, const uint8_t *text, size_t length) 
     struct reply it = called(site, "accept", GIVEN(of(text, length)));
     sct_accepted found = {it.ok, it.code, it.place, it.fresh, 0};
     return found;
+}
+
+sct_outcome sct_raw_snapshot(sct_site *site, sct_site *snapshot) {
+    const struct held *other = snapshot->private_address;
+    struct reply it;
+    if (!site->private_is_full) return outcome(refused(SCT_EMPTY));
+    pthread_mutex_lock(&lock);
+    it = asked(!snapshot->private_is_full && is_out_of_memory() ? "starved" : "snapshot", ((struct held *)site->private_address)->number,
+               one(snapshot->private_is_full ? (unsigned long)other->number : (unsigned long)++sites), none);
+    if (it.ok)
+        fill(snapshot, it);
+    else
+        free(it.text);
+    pthread_mutex_unlock(&lock);
+    return outcome(it);
 }
 
 sct_outcome sct_raw_counts(sct_site *site, uint64_t *counts, size_t items) {

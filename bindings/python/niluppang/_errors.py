@@ -38,7 +38,7 @@ class NiluppangError(Exception):
 
 class Refused(NiluppangError, ValueError):
     """What came in is wrong: a message, a delta, a list, a vector or another argument. Numbers 31 to 38, 41 to 46, 48,
-    56, 72, 73 and 79 to 83."""
+    56, 72, 73, 79 and 81 to 84."""
 
 
 class MessageRefused(Refused):
@@ -55,13 +55,13 @@ class NotYours(Refused):
 
 
 class Withheld(Refused):
-    """The message that `take_as` was given may not be sent in the name of the banks. Numbers 80 to 82, and 83 of
+    """The message that `take_as` was given may not be sent in the name of the banks. Numbers 81 to 83, and 84 of
     `Waits`."""
 
 
 class Waits(Withheld):
     """No instruction on the transfer of the message is held yet. The message can be sent again when there is one.
-    Number 83."""
+    Number 84."""
 
     @property
     def transfer(self) -> Optional[Transfer]:
@@ -86,8 +86,8 @@ MEMORY, EMPTY = 65, 70
 OF_DELTAS = range(41, 46)  # 44 is a number of other calls too
 OF_NUMBERS: Dict[int, Type[NiluppangError]] = {
     MEMORY: OutOfMemory, EMPTY: Closed, **dict.fromkeys((*range(31, 39), 46, 56), MessageRefused),
-    **dict.fromkeys((*OF_DELTAS, 48, 72, 73), Refused), 79: NotYours, **dict.fromkeys(range(80, 83), Withheld),
-    83: Waits}
+    **dict.fromkeys((*OF_DELTAS, 48, 72, 73), Refused), 79: NotYours, **dict.fromkeys(range(81, 84), Withheld),
+    84: Waits}
 
 
 def error_of(call: str, number: int, place: int, reason: str) -> NiluppangError:

@@ -52,7 +52,7 @@ GROUP = [ctypes.c_uint16, ctypes.c_uint16]
 CALLS: Dict[str, List[object]] = {
     "open": [Outcome, *GROUP], "restore": [Outcome, *GROUP, *TEXT, *TEXT], "close": [None],
     "take": [TakenOutcome, *TEXT], "take_as": [TakenOutcome, *TEXT, *TEXT], "take_lines": [LinesOutcome, *TEXT],
-    "accept": [AcceptedOutcome, *TEXT],
+    "accept": [AcceptedOutcome, *TEXT], "snapshot": [Outcome, ctypes.POINTER(Handle)],
     "counts": [Outcome, *COUNTS], "vector_text": [Outcome], "cut": [Outcome, *TEXT], "cut_above": [Outcome, *COUNTS],
     "entries": [Outcome, ctypes.c_uint16, ctypes.c_uint64, ctypes.c_uint64],
     "digest": [Outcome, ctypes.c_uint16, ctypes.c_uint64],

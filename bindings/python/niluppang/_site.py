@@ -13,7 +13,8 @@ from ._library import Handle, library
 
 Text = TypeVar("Text", str, bytes)
 Given = Union[str, bytes, bytearray, memoryview, mmap.mmap]
-Self = TypeVar("Self", bound="BaseSite[Any]")
+Self = TypeVar("Self", bound="Questions[Any]")
+Made = TypeVar("Made", bound="BaseSite[Any]")
 
 BAD_SITE, BAD_VECTOR, BAD_ARGUMENT = 44, 72, 73
 BYTES = (bytes, bytearray, memoryview, mmap.mmap)
@@ -107,7 +108,7 @@ new_bytes.restype, new_bytes.argtypes = ctypes.py_object, [ctypes.c_char_p, ctyp
 class Parts(io.RawIOBase):
     """The answer of a site as a file, of which parts are read. It fails when the site has another answer."""
 
-    def __init__(self, site: "BaseSite[Any]", answer: int) -> None:
+    def __init__(self, site: "Questions[Any]", answer: int) -> None:
         super().__init__()
         self._site, self._answer, self._place = site, answer, 0
 
@@ -120,43 +121,22 @@ class Parts(io.RawIOBase):
         return length
 
 
-class BaseSite(Generic[Text]):
-    """What Site and BytesSite share. They differ in what a text is that a call returns: str or bytes."""
+class Questions(Generic[Text]):
+    """What sites and snapshots share: what they are asked. A text that a call returns is a str or bytes."""
 
     _text: Callable[[bytes], Text]
 
-    def __init__(self, number: int, group: int) -> None:
-        """Opens site `number` of a group of `group` sites, both 1 to 1024. It holds nothing. Refusals: 44, 65."""
-        self._begin("open", number, group)
-
-    def _begin(self, call: str, number: int, group: int, *texts: Given) -> int:
-        """Opens the site by a call. Returns the length of its answer."""
+    def _prepare(self, number: int, group: int) -> None:
+        """Has an empty handle, for a call that puts a site or a snapshot into it."""
         if hasattr(self, "_handle"):
             raise RuntimeError("a site is opened once: another site is another object")
         self._library = library()
-        self._refused: Optional[Text] = None
-        self._number, self._group = site_number(number), site_number(group)
+        self._number, self._group = number, group
         # for each call on the handle, since the library takes what is in it while it runs
         self._turn = threading.Lock()
         self._answers = 0  # how many answers were made
         self._is_closed = True
         self._handle = Handle()
-        length = self._checked(call, self._called(call, *texts, plain=(self._number, self._group))).length
-        self._is_closed = False
-        return int(length)
-
-    @classmethod
-    def restore(cls: Type[Self], number: int, group: int, journal: Given, delta: Given = b"") -> Self:
-        """A site that was there before.
-
-        The journal is its own messages, one JSON object a line, in the order of their numbers: what it took, but no
-        repeat. The delta is a cut that it kept or that a peer made. What is refused of the two is left out, and
-        `refused_text` has it. Refusals: 44, 65.
-        """
-        site = cls.__new__(cls)
-        length = site._begin("restore", number, group, journal, delta)
-        site._refused = site._copied(length)
-        return site
 
     @property
     def number(self) -> int:
@@ -167,13 +147,6 @@ class BaseSite(Generic[Text]):
     def group(self) -> int:
         """How many sites the group has."""
         return self._group
-
-    @property
-    def refused_text(self) -> Optional[Text]:
-        """A line for each line of the journal that was refused at the restore, such as `file 1 line 8: 31`, and one for
-        the delta, such as `file 2: 41 3 0 7`. It is empty if nothing was refused, and None if the site was opened and
-        not restored."""
-        return self._refused
 
     # ---- the end
 
@@ -210,13 +183,13 @@ class BaseSite(Generic[Text]):
                 self._turn.release()
 
     def __reduce_ex__(self, protocol: Any) -> Any:
-        raise TypeError("a site cannot be copied or pickled: keep its journal and a cut, and restore it")
+        raise TypeError("a site or a snapshot cannot be copied or pickled: keep a journal and a cut, and restore them")
 
     def __repr__(self) -> str:
         state = "closed" if self._is_closed else "open"
         return f"<{type(self).__name__} {self._number} of {self._group}, {state}>"
 
-    # ---- what each call does. But for `_taken`, `_answered` and `_lines`, these need the lock
+    # ---- what each call does. But for `_answered` and `_lines`, these need the lock
 
     def _called(self, call: str, *texts: Given, plain: Tuple[Any, ...] = ()) -> Any:
         """What a call comes to, by plain arguments and by texts. When it returns, the memory of no text is lent any
@@ -247,13 +220,7 @@ class BaseSite(Generic[Text]):
         """The answer, whose length is known. Its bytes are written in place."""
         room: bytes = new_bytes(None, length)
         self._checked("answer", self._called("answer", plain=(room, length)))
-        return type(self)._text(room)
-
-    def _taken(self, call: str, *texts: Given) -> Taken:
-        """What a call comes to that takes a message."""
-        with self._turn:
-            outcome = self._checked(call, self._called(call, *texts))
-        return Taken(outcome.is_repeat, None if outcome.is_repeat else outcome.number)
+        return self._text(room)
 
     def _answered(self, call: str, *texts: Given, plain: Tuple[Any, ...] = ()) -> Text:
         """The answer that a call makes."""
@@ -270,7 +237,7 @@ class BaseSite(Generic[Text]):
 
     def _each_line(self, answer: int) -> Iterator[Text]:
         for line in io.BufferedReader(Parts(self, answer), PART):
-            yield type(self)._text(line)
+            yield self._text(line)
             self._must_have(answer)
 
     def _must_have(self, answer: int) -> None:
@@ -288,37 +255,13 @@ class BaseSite(Generic[Text]):
                                    plain=(place, ctypes.byref(ctypes.c_char.from_buffer(room)), len(room)))
             return int(self._checked("answer_part", outcome).length)
 
-    # ---- messages and deltas in
+    # ---- a snapshot, and what a text says
 
-    def take(self, message: Given) -> Taken:
-        """Takes the message that one JSON object is. If it is no repeat, it belongs into the journal, on one line,
-        before it is acknowledged and before the next cut. Refusals: 31 to 38, 46, 56, 65."""
-        return self._taken("take", message)
-
-    def take_as(self, banks: Given, message: Given) -> Taken:
-        """As `take`, if the message may be sent in the name of some banks: a text such as `BANKDEFF,BANQFRPP`, of 1 to
-        16. They are the banks for which a client stands.
-
-        The error is `Withheld` if the sender is none of them (80); if a pacs.008, camt.056 or pacs.028 is not of their
-        own transfers (81, with the place of the transaction); or if a pacs.002, pacs.004 or camt.029 is not on a
-        transfer to one of them (82). It is `Waits`, with the transfer, if no instruction on that is held yet (83): the
-        message can be sent again. Refusals: 31 to 38, 46, 56, 65, 73 (1: the banks), 80 to 83.
-        """
-        return self._taken("take_as", banks, message)
-
-    def take_lines(self, text: Given) -> LinesTaken[Text]:
-        """Takes the messages of a text, one JSON object a line. `journal` has those that are new.
-
-        Refusals: 65. After it some of the first messages may be taken; the text can be taken again.
-        """
-        with self._turn:
-            outcome = self._made("take_lines", text)
-            return LinesTaken(outcome.fresh, outcome.repeats, outcome.refused, self._copied(outcome.length))
-
-    def accept(self, delta: Given) -> Accepted:
-        """Accepts a delta text, whole or not at all. `newest` has what was new. Refusals: 41 to 45, 65."""
-        with self._turn:
-            return Accepted(self._checked("accept", self._called("accept", delta)).fresh)
+    def snapshot(self) -> "Snapshot[Text]":
+        """What is held now, to be asked while the site goes on, also in another thread. It is made at once, of any
+        number of messages, and is closed by itself. Its first question goes through everything, and later ones do not.
+        Refusals: 65."""
+        return Snapshot(self)
 
     def reading(self, text: Given) -> Text:
         """What the site reads in a text of messages, one JSON object a line. It takes none of them.
@@ -331,7 +274,8 @@ class BaseSite(Generic[Text]):
     # ---- what the site holds, and deltas out
 
     def counts(self) -> List[int]:
-        """How many messages of site 1, 2, .. of the group this site holds: its version vector."""
+        """How many messages of site 1, 2, .. of the group this site holds: its version vector. Refusals: 65, if it is a
+        snapshot's first question."""
         counts = (ctypes.c_uint64 * self._group)()
         with self._turn:
             self._checked("counts", self._called("counts", plain=(counts, self._group)))
@@ -482,20 +426,6 @@ class BaseSite(Generic[Text]):
         one on a transfer without messages. Refusals: 48, 65, 73 (1: the banks, 2: the bank, 3: the day), 79."""
         return self._answered("report_for", banks, bank, day, rows)
 
-    # ---- what changed
-
-    def changes(self) -> List[Transfer]:
-        """The transfers whose lines may have changed since the call before. The first call begins the watch, and
-        returns none.
-
-        It is a list, and no iterator: the site names each change once, and a caller that stopped early would lose the
-        rest.
-        """
-        with self._turn:
-            room: bytes = new_bytes(None, self._made("changes").length)
-            self._checked("answer", self._called("answer", plain=(room, len(room))))
-        return [Transfer(*line.split("|")) for line in room.decode().split("\n")[:-1]]
-
     # ---- the answer
 
     def answer(self) -> Text:
@@ -510,6 +440,94 @@ class BaseSite(Generic[Text]):
             self._made("answer_end")
 
 
+class BaseSite(Questions[Text]):
+    """What Site and BytesSite share. They differ in what a text is that a call returns: str or bytes."""
+
+    def __init__(self, number: int, group: int) -> None:
+        """Opens site `number` of a group of `group` sites, both 1 to 1024. It holds nothing. Refusals: 44, 65."""
+        self._begin("open", number, group)
+
+    def _begin(self, call: str, number: int, group: int, *texts: Given) -> int:
+        """Opens the site by a call. Returns the length of its answer."""
+        self._prepare(site_number(number), site_number(group))
+        self._refused: Optional[Text] = None
+        length = self._checked(call, self._called(call, *texts, plain=(self._number, self._group))).length
+        self._is_closed = False
+        return int(length)
+
+    @classmethod
+    def restore(cls: Type[Made], number: int, group: int, journal: Given, delta: Given = b"") -> Made:
+        """A site that was there before.
+
+        The journal is its own messages, one JSON object a line, in the order of their numbers: what it took, but no
+        repeat. The delta is a cut that it kept or that a peer made. What is refused of the two is left out, and
+        `refused_text` has it. Refusals: 44, 65.
+        """
+        site = cls.__new__(cls)
+        length = site._begin("restore", number, group, journal, delta)
+        site._refused = site._copied(length)
+        return site
+
+    @property
+    def refused_text(self) -> Optional[Text]:
+        """A line for each line of the journal that was refused at the restore, such as `file 1 line 8: 31`, and one for
+        the delta, such as `file 2: 41 3 0 7`. It is empty if nothing was refused, and None if the site was opened and
+        not restored."""
+        return self._refused
+
+    # ---- messages and deltas in
+
+    def _taken(self, call: str, *texts: Given) -> Taken:
+        """What a call comes to that takes a message."""
+        with self._turn:
+            outcome = self._checked(call, self._called(call, *texts))
+        return Taken(outcome.is_repeat, None if outcome.is_repeat else outcome.number)
+
+    def take(self, message: Given) -> Taken:
+        """Takes the message that one JSON object is. If it is no repeat, it belongs into the journal, on one line,
+        before it is acknowledged and before the next cut. Refusals: 31 to 38, 46, 56, 65."""
+        return self._taken("take", message)
+
+    def take_as(self, banks: Given, message: Given) -> Taken:
+        """As `take`, if the message may be sent in the name of some banks: a text such as `BANKDEFF,BANQFRPP`, of 1 to
+        16. They are the banks for which a client stands.
+
+        The error is `Withheld` if the sender is none of them (81); if a pacs.008, camt.056 or pacs.028 is not of their
+        own transfers (82, with the place of the transaction); or if a pacs.002, pacs.004 or camt.029 is not on a
+        transfer to one of them (83). It is `Waits`, with the transfer, if no instruction on that is held yet (84): the
+        message can be sent again. Refusals: 31 to 38, 46, 56, 65, 73 (1: the banks), 81 to 84.
+        """
+        return self._taken("take_as", banks, message)
+
+    def take_lines(self, text: Given) -> LinesTaken[Text]:
+        """Takes the messages of a text, one JSON object a line. `journal` has those that are new.
+
+        Refusals: 65. After it some of the first messages may be taken; the text can be taken again.
+        """
+        with self._turn:
+            outcome = self._made("take_lines", text)
+            return LinesTaken(outcome.fresh, outcome.repeats, outcome.refused, self._copied(outcome.length))
+
+    def accept(self, delta: Given) -> Accepted:
+        """Accepts a delta text, whole or not at all. `newest` has what was new. Refusals: 41 to 45, 65."""
+        with self._turn:
+            return Accepted(self._checked("accept", self._called("accept", delta)).fresh)
+
+    # ---- what changed
+
+    def changes(self) -> List[Transfer]:
+        """The transfers whose lines may have changed since the call before. The first call begins the watch, and
+        returns none.
+
+        It is a list, and no iterator: the site names each change once, and a caller that stopped early would lose the
+        rest.
+        """
+        with self._turn:
+            room: bytes = new_bytes(None, self._made("changes").length)
+            self._checked("answer", self._called("answer", plain=(room, len(room))))
+        return [Transfer(*line.split("|")) for line in room.decode().split("\n")[:-1]]
+
+
 class Site(BaseSite[str]):
     """A site of a hub. Its texts are str. Texts that go in are str, bytes or other memory, into which nobody writes
     during the call.
@@ -519,8 +537,8 @@ class Site(BaseSite[str]):
             print(site.status_text(), end="")
 
     Several threads may use one site: a lock lets one call in at a time. A call gives other threads the interpreter
-    while it runs. Do not call a site from a signal handler, or in a child made by fork of a program with several
-    threads.
+    while it runs. A long question goes to a `snapshot`, and the site goes on meanwhile. Do not call a site from a
+    signal handler, or in a child made by fork of a program with several threads.
     """
     _text = staticmethod(bytes.decode)
 
@@ -528,3 +546,23 @@ class Site(BaseSite[str]):
 class BytesSite(BaseSite[bytes]):
     """A site whose texts are bytes. All else is as in Site."""
     _text = staticmethod(bytes)
+
+
+class Snapshot(Questions[Text]):
+    """What a site held when its `snapshot` was called. It answers what the site would have answered then, and takes
+    nothing. Its texts are as those of the site: str of a Site, and bytes of a BytesSite.
+
+        with site.snapshot() as snapshot:
+            for line in snapshot.archive_lines():
+                print(line, end="")
+
+    It may be asked in another thread, while the site goes on, and each is closed by itself, in any order.
+    """
+
+    def __init__(self, of: Questions[Text]) -> None:
+        """A snapshot of a site, or of a snapshot. Refusals: 65."""
+        with of._turn:
+            self._prepare(of._number, of._group)
+            self._text = of._text
+            of._checked("snapshot", of._called("snapshot", plain=(self._handle,)))
+            self._is_closed = False

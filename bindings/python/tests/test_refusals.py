@@ -73,11 +73,11 @@ FOR_BANKS = [
     (NotYours, "report_for", ["BANKITMM", "BANKDEFF", DAY, ""], "NotYours", 0, "79"),
     (MessageRefused, "take_as", ["BANKDEFF", "{"], "NotJson", 0, "31"),
     (MessageRefused, "take_as", ["BANKITMM", recall(RECALLED, 7)], "BadTransactions", 2, "46 2"),
-    (Withheld, "take_as", ["BANKITMM", instruction(4)], "NotSender", 0, "80"),
+    (Withheld, "take_as", ["BANKITMM", instruction(4)], "NotSender", 0, "81"),
     (Withheld, "take_as", ["BANKDEFF", recall(RECALLED, {**RECALLED, "DbtrAgt": "BANKITMM"})], "NotOriginator", 2,
-     "81 2"),
-    (Withheld, "take_as", ["BANKITMM", confirmation(3, InstgAgt="BANKITMM")], "NotBeneficiary", 0, "82"),
-    (Waits, "take_as", ["BANQFRPP", confirmation(4)], "Waits", 0, "83 BANKDEFFXXX T4")]
+     "82 2"),
+    (Withheld, "take_as", ["BANKITMM", confirmation(3, InstgAgt="BANKITMM")], "NotBeneficiary", 0, "83"),
+    (Waits, "take_as", ["BANQFRPP", confirmation(4)], "Waits", 0, "84 BANKDEFFXXX T4")]
 # the library is not called for what C has no place for
 NOT_CALLED = [("cut", [[-1]], "BadVector", 0, ""), ("cut", [[1 << 64]], "BadVector", 0, ""),
               ("cut_lines", [[0, -1]], "BadVector", 0, ""),
@@ -133,11 +133,11 @@ def test_no_such_site(number, group):
 
 
 def test_each_number_is_met():
-    assert {name for _, _, _, name, _, _ in REFUSED} == set(NUMBERS) - {"Memory", "Empty", "Full"}
+    assert {name for _, _, _, name, _, _ in REFUSED} == set(NUMBERS) - {"Memory", "Empty", "Full", "Snapshot"}
 
 
 def test_names_and_meanings_are_those_of_the_header():
-    assert len(table()) == 26 and WORDS == table()
+    assert len(table()) == 27 and WORDS == table()
 
 
 # ---- errors
@@ -155,7 +155,7 @@ def test_transfer_that_is_waited_for(site):
             site.take_as("BANQFRPP", confirmation(4, OrgnlTxId=tx))
         for it in (raised.value, pickle.loads(pickle.dumps(raised.value)), copy.copy(raised.value)):
             assert it.transfer == Transfer("BANKDEFFXXX", tx)
-    assert Waits(83).transfer is None and Waits(83, 0, "83").transfer is None
+    assert Waits(84).transfer is None and Waits(84, 0, "84").transfer is None
 
 
 def test_message_that_waited_is_taken(site):

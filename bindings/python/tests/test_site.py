@@ -31,6 +31,7 @@ CALLS = {"take": [instruction()], "take_lines": [""], "accept": ["delta 2\nend 0
          "report": ["BANKDEFF", "2024-05-02", ""], "kept_text": ["2024-05-02"], "closed_text": ["2024-05-02"],
          "transfer": ["BANKDEFF", "T1"], "messages": ["BANKDEFF", "T1"],
          "bank_totals": ["BANKDEFF"], "changes": [], "answer": [], "answer_end": [],
+         "snapshot": [],
          "take_as": ["BANKDEFF", instruction()], "transfer_for": ["BANKDEFF", "BANKDEFF", "T1"],
          "messages_for": ["BANKDEFF", "BANKDEFF", "T1"], "bank_totals_for": ["BANKDEFF", "BANKDEFF"],
          "report_for": ["BANKDEFF", "BANKDEFF", "2024-05-02", ""]}

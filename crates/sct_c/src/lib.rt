@@ -4,7 +4,7 @@
 ghost use Rattle.std.specs.Prelude.{◌≡◌, None, false, length};
 ghost use Rattle.sct_embed.specs.Codes.{code_name, code_text};
 ghost use Rattle.sct_embed.specs.Outcomes.{refused_accept, refused_as, refused_lines, refused_take};
-ghost use Rattle.sct_embed.specs.Places.{Accepts, Asks, Copies, CopiesPart, CopiesReason, Counts, EndsAnswer, Evaluates, IsCalled, IsCopied, Opens, Restores, Takes, TakesAs, TakesLines};
+ghost use Rattle.sct_embed.specs.Places.{Accepts, Asks, Copies, CopiesPart, CopiesReason, Counts, EndsAnswer, Evaluates, IsCalled, IsCopied, MakesSnapshot, Opens, Restores, Takes, TakesAs, TakesLines};
 ghost use Rattle.sct_embed.specs.declared.question.Question.TheVariants as question;
 ghost use Rattle.sct_version.specs.Numbers.{version_number};
 ghost use Rattle.sct_version.specs.declared.TheConstants.{VERSION};
@@ -42,6 +42,18 @@ pub extern "C" fn sct_raw_restore(
     ensures { Restores number group journal.now delta.now site.old.handle.held result site.new.handle.held }
 {
     site.restore(alloc, number, group, journal, delta)
+}
+
+/// Makes a snapshot of the site of a place in another place, which is empty.
+#[unsafe(no_mangle)]
+pub extern "C" fn sct_raw_snapshot(
+    alloc: Global,
+    site: &mut Place,
+    snapshot: &mut Place,
+) -> CallOutcome
+    ensures { MakesSnapshot site.old.handle.held snapshot.old.handle.held result site.new.handle.held snapshot.new.handle.held }
+{
+    site.snapshot(alloc, snapshot)
 }
 
 /// Ends the site of a place, if there is one, and frees its memory.

@@ -2,6 +2,7 @@
 pub mod AddressLemmas
 pub mod CountsLemmas
 pub mod EntryLemmas
+pub mod FollowLemmas
 pub mod RowOfSite
 pub mod PlaceLemmas
 pub mod ReadingLemmas

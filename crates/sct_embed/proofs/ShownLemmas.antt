@@ -1,10 +1,11 @@
 -- A view that shows the first arrivals shows them whatever comes after them, and what changed up to then stays, as do digests.
-use Rattle.std.proofs.Common.{◌≡◌, ◌∙◌, ap, sym, subst, ℕ, ◌≤◌, List, [], ◌∷◌, ◌++◌, Bool, true, false, Option, Some, None, length, arith}
+use Rattle.std.proofs.Common.{◌≡◌, ◌∙◌, refl, ap, sym, subst, ℕ, ◌≤◌, List, [], ◌∷◌, ◌++◌, Bool, true, false, Option, Some, None, length, arith}
 use Rattle.std.proofs.lemmas.List.{length-append, take-append-le, take_all}
 use Rattle.sct_message.specs.declared.draft.Draft.{Draft}
 use Rattle.sct_message.specs.Sets.{MessageSet}
 use Rattle.sct_delta.specs.Entries.{Placed, messages_of}
 use Rattle.sct_site.specs.Cores.{Core, arrivals_taken, core_taken, is_repeat, own_entry}
+use Rattle.sct_site.proofs.Prefixes.{prefix_trans}
 use Rattle.sct_site.proofs.TakeLemmas.{arrivals-held, arrivals-new}
 use Rattle.sct_view.specs.Touched.{touched_in}
 use Rattle.sct_embed.specs.Showing.{IsShowing, IsShown, IsWatched}
@@ -34,6 +35,7 @@ showing_before s es ds was = record {
   watched = watched_before s.watch s.count es ds was.shown.within was.watched;
   digests = kept_before s.digests es ds was.digests;
   shelf = shelf_before s.shelf es ds was.shelf;
+  blocks = prefix_trans s.blocks es (es ++ ds) was.blocks (ds, refl);
 }
 
 showing_by : (s : Showing) (core : Core) (m : Draft) (b : Bool) → is_repeat core m ≡ b → IsShowing s core.arrivals → IsShowing s (arrivals_taken core m)

@@ -18,8 +18,8 @@ use Rattle.sct_set.specs.Contents.{contents_of}
 use Rattle.sct_set.proofs.ContentsLemmas.{any_items, same_contents, union-none}
 use Rattle.sct_delta.specs.Entries.{Placed, messages_of}
 use Rattle.sct_site.proofs.AcceptLemmas.{messages-append}
-use Rattle.sct_view.specs.StatusText.{finding_line, lines_on, recall_line, status_line}
-use Rattle.sct_view.specs.Touched.{IsToldAlike, fresh_of, is_newly_contradicted, touched_by, touched_in}
+use Rattle.sct_view.specs.StatusText.{lines_on}
+use Rattle.sct_view.specs.Touched.{fresh_of, is_newly_contradicted, touched_by, touched_in}
 use Rattle.sct_view.proofs.TouchedLemmas.{untouched_stay}
 use Rattle.sct_view.proofs.TouchesAddUpLemmas.{touches_add_up}
 use Rattle.sct_keep.proofs.TransferLemmas.{lines_alike}

@@ -26,10 +26,11 @@ code_name code =
     else if code == 72 then codes "BadVector"
     else if code == 73 then codes "BadArgument"
     else if code == 79 then codes "NotYours"
-    else if code == 80 then codes "NotSender"
-    else if code == 81 then codes "NotOriginator"
-    else if code == 82 then codes "NotBeneficiary"
-    else if code == 83 then codes "Waits"
+    else if code == 81 then codes "NotSender"
+    else if code == 82 then codes "NotOriginator"
+    else if code == 83 then codes "NotBeneficiary"
+    else if code == 84 then codes "Waits"
+    else if code == 85 then codes "Snapshot"
     else []
 
 -- the meaning of a number
@@ -57,8 +58,9 @@ code_text code =
     else if code == 72 then codes "the text is not a version vector"
     else if code == 73 then codes "a bank, an identification, a day, an origin, a count or a size is not valid: the place is that of the argument, from 1"
     else if code == 79 then codes "the bank is none of the banks that ask"
-    else if code == 80 then codes "the sender of the message is none of the banks in whose name it is sent"
-    else if code == 81 then codes "the originator bank of the transaction at the place is none of the banks"
-    else if code == 82 then codes "the beneficiary bank of each instruction on the transfer is none of the banks"
-    else if code == 83 then codes "no instruction on the transfer is held yet; the call can be made again when there is one"
+    else if code == 81 then codes "the sender of the message is none of the banks in whose name it is sent"
+    else if code == 82 then codes "the originator bank of the transaction at the place is none of the banks"
+    else if code == 83 then codes "the beneficiary bank of each instruction on the transfer is none of the banks"
+    else if code == 84 then codes "no instruction on the transfer is held yet; the call can be made again when there is one"
+    else if code == 85 then codes "the handle has a snapshot of a site, which takes nothing"
     else []

@@ -12,15 +12,15 @@ use Rattle.sct_reconcile.specs.declared.fault.ReconcileFault.{ReconcileFault}
 use Rattle.sct_reconcile.specs.declared.fault.ReconcileFault.TheVariants as list
 use Rattle.sct_rights.specs.declared.permission.Permission.{Permission}
 use Rattle.sct_rights.specs.declared.permission.Permission.TheVariants as permission
-use Rattle.sct_embed.specs.declared.faults.EmbedFault.TheVariants.{Message, Delta, BadList, Memory, Empty, Full, BadVector, BadArgument, NotYours, Withheld}
+use Rattle.sct_embed.specs.declared.faults.EmbedFault.TheVariants.{Message, Delta, BadList, Memory, Empty, Full, BadVector, BadArgument, NotYours, Withheld, Snapshot}
 
 -- the number of why a message may not be sent; 0 if it may
 abbrev pub permission_number : Permission → ℕ
 permission_number permission.Allowed = 0
-permission_number permission.NotSender = 80
-permission_number (permission.NotOriginator place) = 81
-permission_number permission.NotBeneficiary = 82
-permission_number (permission.Waits transfer) = 83
+permission_number permission.NotSender = 81
+permission_number (permission.NotOriginator place) = 82
+permission_number permission.NotBeneficiary = 83
+permission_number (permission.Waits transfer) = 84
 
 -- the number of a fault
 abbrev pub embed_fault_number : EmbedFault → ℕ
@@ -34,6 +34,7 @@ embed_fault_number BadVector = 72
 embed_fault_number (BadArgument place) = 73
 embed_fault_number NotYours = 79
 embed_fault_number (Withheld reason) = permission_number reason
+embed_fault_number Snapshot = 85
 
 -- where a fault is: the transaction of a message, the line of a delta text, the record of a list, the argument of the
 -- call; else 0. Of a message that may not be sent it is the first transaction with another originator bank

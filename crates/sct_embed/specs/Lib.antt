@@ -6,7 +6,9 @@ pub mod Codes
 pub mod Counts
 pub mod Embeddings
 pub mod Faults
+pub mod Following
 pub mod Handles
+pub mod Keeping
 pub mod Laws
 pub mod Lending
 pub mod Outcomes

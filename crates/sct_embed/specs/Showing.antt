@@ -1,7 +1,7 @@
--- A view that shows the first arrivals of a site, the transfers that changed since its changes were asked for, digests, and what is
--- filed for banks.
--- Serves proofs.
+-- A view that shows the first arrivals of a site, the transfers that changed since its changes were asked for, digests, what is filed,
+-- and the first arrivals in blocks. Serves proofs.
 use Rattle.std.specs.Prelude.{◌≡◌, ◌≤◌, ◌++◌, ℕ, List, [], Option, Some, None, length, take, option_map, flat_map, ⊤}
+use mathlib.Core.List.{IsPrefix}
 use Rattle.sct_message.specs.Ascending.{ascending}
 use Rattle.sct_message.specs.Order.{transfer_order}
 use Rattle.sct_message.specs.Sets.{MessageSet}
@@ -37,6 +37,7 @@ pub record IsShowing (showing : Showing) (arrivals : List Placed) : Type 0 where
   pub watched : IsWatched showing.watch showing.count arrivals
   pub digests : AreKept showing.digests arrivals
   pub shelf : IsShelf showing.shelf arrivals
+  pub blocks : IsPrefix showing.blocks arrivals
 
 -- The watch after a view that shows `held` is joined with a batch. Before changes were asked for, nothing is kept.
 abbrev pub IsLater : Option Watch → MessageSet → MessageSet → Option Watch → Type 0

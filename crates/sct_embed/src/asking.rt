@@ -57,8 +57,8 @@ impl Place {
         let Some(mut kept) = self.take_out(alloc) else {
             return CallOutcome::refused(&EmbedFault::Empty);
         };
-        let done = kept.site.ask(question);
-        let outcome = CallOutcome::of(&done, kept.site.answer().len());
+        let done = kept.content.ask(alloc, question);
+        let outcome = CallOutcome::of(&done, kept.content.answer().len());
         kept.keep_why(done);
         self.put_in(kept);
         outcome
@@ -71,8 +71,8 @@ impl Place {
         let Some(mut kept) = self.take_out(alloc) else {
             return CallOutcome::refused(&EmbedFault::Empty);
         };
-        let done = kept.site.evaluate();
-        let outcome = CallOutcome::of(&done, kept.site.answer().len());
+        let done = kept.content.evaluate(alloc);
+        let outcome = CallOutcome::of(&done, kept.content.answer().len());
         kept.keep_why(done);
         self.put_in(kept);
         outcome
@@ -86,7 +86,7 @@ impl Place {
         let Some(kept) = self.kept_mut() else {
             return CallOutcome::refused(&EmbedFault::Empty);
         };
-        CallOutcome::done(copy_text(kept.site.answer(), out))
+        CallOutcome::done(copy_text(kept.content.answer(), out))
     }
 
     /// Copies a part of the answer: what comes after its first `from` bytes, as far as there is room. Says the length of the part.
@@ -98,7 +98,7 @@ impl Place {
         let Some(kept) = self.kept_mut() else {
             return CallOutcome::refused(&EmbedFault::Empty);
         };
-        CallOutcome::done(copy_part(kept.site.answer(), from, out))
+        CallOutcome::done(copy_part(kept.content.answer(), from, out))
     }
 
     /// The answer becomes empty, and its memory is freed. Refusal: `Empty` (70).
@@ -108,7 +108,7 @@ impl Place {
         let Some(mut kept) = self.take_out(alloc) else {
             return CallOutcome::refused(&EmbedFault::Empty);
         };
-        kept.site.end_answer();
+        kept.content.end_answer();
         self.put_in(kept);
         CallOutcome::done(0)
     }

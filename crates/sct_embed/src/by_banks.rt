@@ -44,7 +44,7 @@ impl EmbeddedSite {
         };
         let transfer = transfer_named(bank, tx)?;
         self.showing
-            .show_for_banks(self.alloc, self.core.arrivals())?;
+            .show_by_transfer(self.alloc, self.core.arrivals())?;
         let (view, filed) = (&self.showing.view, &self.showing.shelf.by_transfer);
         let text = transfer_text_for(self.alloc, view, filed, &banks, &transfer);
         self.answer = text.map_err(AllocError::from)?;
@@ -67,7 +67,7 @@ impl EmbeddedSite {
         };
         let transfer = transfer_named(bank, tx)?;
         self.showing
-            .show_for_banks(self.alloc, self.core.arrivals())?;
+            .show_by_transfer(self.alloc, self.core.arrivals())?;
         let (view, filed) = (&self.showing.view, &self.showing.shelf.by_transfer);
         self.answer = messages_text_for(self.alloc, view, filed, &banks, &transfer)?;
         Ok(())

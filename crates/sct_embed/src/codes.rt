@@ -34,10 +34,11 @@ fn name_of(code: u8) -> &'static str
         72 => "BadVector",
         73 => "BadArgument",
         79 => "NotYours",
-        80 => "NotSender",
-        81 => "NotOriginator",
-        82 => "NotBeneficiary",
-        83 => "Waits",
+        81 => "NotSender",
+        82 => "NotOriginator",
+        83 => "NotBeneficiary",
+        84 => "Waits",
+        85 => "Snapshot",
         _ => "",
     }
 }
@@ -73,11 +74,12 @@ fn text_of(code: u8) -> &'static str
         73 =>
             "a bank, an identification, a day, an origin, a count or a size is not valid: the place is that of the argument, from 1",
         79 => "the bank is none of the banks that ask",
-        80 => "the sender of the message is none of the banks in whose name it is sent",
-        81 => "the originator bank of the transaction at the place is none of the banks",
-        82 => "the beneficiary bank of each instruction on the transfer is none of the banks",
-        83 =>
+        81 => "the sender of the message is none of the banks in whose name it is sent",
+        82 => "the originator bank of the transaction at the place is none of the banks",
+        83 => "the beneficiary bank of each instruction on the transfer is none of the banks",
+        84 =>
             "no instruction on the transfer is held yet; the call can be made again when there is one",
+        85 => "the handle has a snapshot of a site, which takes nothing",
         _ => "",
     }
 }

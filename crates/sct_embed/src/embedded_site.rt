@@ -1,9 +1,10 @@
 //! A site of a group, and the text that it was asked for last.
 
 ghost use Rattle.std.specs.Prelude.{◌≡◌, ◌≢◌, ◌<◌, [], None, length, true, false, IfErr, IfOk, OnErr, OnOk};
+ghost use Rattle.std.specs.Arc.{arc_value};
 ghost use Rattle.sct_delta.specs.declared.fault.DeltaFault.TheVariants as delta;
 ghost use Rattle.sct_lines.specs.Lines.{messages_read, refusals_told, told_text_of};
-ghost use Rattle.sct_site.specs.Cores.{is_open};
+ghost use Rattle.sct_site.specs.Cores.{core_taken, is_open, took_by};
 ghost use Rattle.sct_embed.specs.Calls.{IsDeltaAccepted, IsTaken, RefusesDelta, RefusesMessage};
 ghost use Rattle.sct_embed.specs.Counts.{AreCounts};
 ghost use Rattle.sct_embed.specs.Restoring.{core_restored, restored_text};
@@ -18,6 +19,7 @@ use sct_delta::{DeltaFault, MOST_SITES, read_delta};
 use sct_exchange::{Exchanged, exchange, write_refused_files};
 use sct_json::MessageReader;
 use sct_lines::{Intake, read_lines_after};
+use sct_message::Message;
 use sct_site::{Accepted, SiteCore, Took};
 use std::alloc::{AllocError, Global};
 use std::marker::Model;
@@ -128,6 +130,27 @@ impl EmbeddedSite {
         Ok(self.showing.show_all(self.alloc, self.core.arrivals())?)
     }
 
+    // Has the blocks that snapshots share follow the arrivals.
+    pub(crate) fn seal(&mut self)
+        ensures { self.new ≡ self.old }
+    {
+        self.showing.seal(self.core.arrivals());
+    }
+
+    // Takes a message. Error: `Memory` (65).
+    pub(crate) fn put(&mut self, message: Arc<Message>) -> Result<Took, EmbedFault>
+        ensures took { IfOk result (λ took. took ≡ took_by self.old.core (arc_value message)) }
+        ensures core { OnOk result (self.new.core ≡ core_taken self.old.core (arc_value message)) }
+        ensures answer { self.new.answer ≡ self.old.answer }
+        ensures watched { self.new.watched ≡ self.old.watched }
+        ensures err { IfErr result (λ e. e ≡ fault.Memory) }
+        ensures unchanged { OnErr result (self.new ≡ self.old) }
+    {
+        let took = self.core.take(message)?;
+        self.seal();
+        Ok(took)
+    }
+
     /// Takes the message that one JSON object is a form of. The cost is that of the object, and of one addition.
     /// Errors: the first reason why the bytes are a form of no message (31 to 38, 46, 56), or `Memory` (65).
     pub fn take(&mut self, json: &[u8]) -> Result<Took, EmbedFault>
@@ -138,7 +161,7 @@ impl EmbeddedSite {
         ensures unchanged { OnErr result (self.new ≡ self.old) }
     {
         let message = Arc::new(self.alloc, self.reader.read(json)?).map_err(AllocError::from)?;
-        Ok(self.core.take(message)?)
+        self.put(message)
     }
 
     /// Accepts the delta that a text of form 1 or 2 is. The cost is that of the text, and of an addition for each new entry.
@@ -152,7 +175,9 @@ impl EmbeddedSite {
         ensures unchanged { OnErr result (self.new ≡ self.old) }
     {
         let delta = read_delta(self.alloc, text)?;
-        Ok(self.core.accept(&delta)?)
+        let accepted = self.core.accept(&delta)?;
+        self.seal();
+        Ok(accepted)
     }
 
     /// Writes how many entries of each origin the site holds, that of origin 1 first. `out` may have any length up to 1024.
@@ -187,6 +212,7 @@ impl EmbeddedSite {
         let repeats = intake.messages.len() - fresh;
         let (refused_text, refused) = intake.refusals.into_parts();
         self.answer = refused_text.into_bytes();
+        self.seal();
         Ok(TakenLines {
             fresh: fresh as u64,
             repeats: repeats as u64,

@@ -42,21 +42,24 @@ pub enum EmbedFault {
     /// 79: the bank is none of the banks for which the question is asked.
     #[error("the bank is none of the banks that ask")]
     NotYours,
-    /// 80 to 83: the message may not be sent in the name of the banks, or not yet.
+    /// 81 to 84: the message may not be sent in the name of the banks, or not yet.
     #[error("the message may not be sent in the name of the banks")]
     Withheld(Permission),
+    /// 85: it is a snapshot of a site, which takes nothing.
+    #[error("a snapshot takes nothing")]
+    Snapshot,
 }
 
-// The number of why a message may not be sent: 80 to 83. 0 if it may.
+// The number of why a message may not be sent: 81 to 84. 0 if it may.
 fn permission_number(permission: &Permission) -> u8
     ensures { result ≡ permission_number permission.now }
 {
     match permission {
         Permission::Allowed => 0,
-        Permission::NotSender => 80,
-        Permission::NotOriginator(_) => 81,
-        Permission::NotBeneficiary => 82,
-        Permission::Waits(_) => 83,
+        Permission::NotSender => 81,
+        Permission::NotOriginator(_) => 82,
+        Permission::NotBeneficiary => 83,
+        Permission::Waits(_) => 84,
     }
 }
 
@@ -76,10 +79,11 @@ impl EmbedFault {
             EmbedFault::BadArgument(_) => 73,
             EmbedFault::NotYours => 79,
             EmbedFault::Withheld(permission) => permission_number(permission),
+            EmbedFault::Snapshot => 85,
         }
     }
 
-    /// Where the fault is, from 1: the line of a delta text (45), the transaction of a message (46, 56, 81), the record of a list
+    /// Where the fault is, from 1: the line of a delta text (45), the transaction of a message (46, 56, 82), the record of a list
     /// (48) or the argument of the call (73). 0 for every other fault.
     pub fn place(&self) -> u64
         ensures { result ≡ embed_fault_place self.now }

@@ -1,4 +1,4 @@
-//! A site as a place keeps it, with the reason why its last call was refused.
+//! A site or a snapshot as a place keeps it, with the reason why its last call was refused.
 
 ghost use Rattle.std.specs.Prelude.{◌≡◌, ◌++◌, IfOk, OnOk, codes, string_bytes};
 ghost use Rattle.std.specs.Result.{result_err};
@@ -10,21 +10,33 @@ use sct_exchange::push_refusal;
 use sct_lines::push_json_fault;
 use sct_message::TransferKey;
 use sct_rights::Permission;
+use sct_snapshot::Snapshot;
 use std::alloc::{AllocError, Global};
 use std::fmt::Write;
 
-/// A site, and why its last call was refused; none if it was not.
+/// A site or a snapshot of one.
+#[derive(Drop)]
+pub(crate) enum Content {
+    /// A site.
+    Own(EmbeddedSite),
+    /// A snapshot that was asked nothing.
+    Ahead(Snapshot),
+    /// A snapshot, as a site that has taken in all that it has.
+    Followed(EmbeddedSite),
+}
+
+/// A site or a snapshot of one, and why its last call was refused; none if it was not.
 #[derive(Drop)]
 pub struct KeptSite {
-    pub(crate) site: EmbeddedSite,
+    pub(crate) content: Content,
     pub(crate) why: Option<EmbedFault>,
 }
 
 // Appends that a message waits for an instruction, and on which transfer.
 fn push_waits(text: &mut String, transfer: &TransferKey) -> Result<(), AllocError>
-    ensures { OnOk result (string_bytes text.new ≡ string_bytes text.old ++ (codes "83 " ++ transfer_words transfer.now)) }
+    ensures { OnOk result (string_bytes text.new ≡ string_bytes text.old ++ (codes "84 " ++ transfer_words transfer.now)) }
 {
-    text.push_str("83 ")?;
+    text.push_str("84 ")?;
     text.push_str(transfer.debtor_agent.text())?;
     text.push_str(" ")?;
     text.push_str(transfer.tx.text())?;
@@ -38,9 +50,9 @@ fn push_withheld(text: &mut String, permission: &Permission) -> Result<(), Alloc
 {
     match permission {
         Permission::Allowed => Ok(()),
-        Permission::NotSender => text.push_str("80"),
-        Permission::NotOriginator(place) => write!(text, "81 {place}"),
-        Permission::NotBeneficiary => text.push_str("82"),
+        Permission::NotSender => text.push_str("81"),
+        Permission::NotOriginator(place) => write!(text, "82 {place}"),
+        Permission::NotBeneficiary => text.push_str("83"),
         Permission::Waits(transfer) => push_waits(text, transfer),
     }
 }
@@ -61,6 +73,7 @@ fn push_fault(alloc: Global, text: &mut String, reason: &EmbedFault) -> Result<(
         EmbedFault::BadArgument(place) => write!(text, "73 {place}"),
         EmbedFault::NotYours => text.push_str("79"),
         EmbedFault::Withheld(permission) => push_withheld(text, permission),
+        EmbedFault::Snapshot => text.push_str("85"),
     }
 }
 
@@ -68,7 +81,7 @@ impl KeptSite {
     /// Keeps why a call was refused, or nothing if it was not.
     pub(crate) fn keep_why<T: Drop>(&mut self, done: Result<T, EmbedFault>)
         ensures why { self.new.why ≡ result_err done }
-        ensures site { self.new.site ≡ self.old.site }
+        ensures content { self.new.content ≡ self.old.content }
     {
         self.why = done.err();
     }

@@ -3,8 +3,8 @@
 //! An [`EmbeddedSite`] reads and writes no stream. The text of a [`Question`] becomes its answer, which stays until the next
 //! one. Its texts are those of the program, byte for byte. Each refusal is an [`EmbedFault`] with a number.
 //!
-//! A [`Place`] keeps a site for a program in another language, with why its last call was refused. It goes from thread to
-//! thread, and one call at a time uses it.
+//! A [`Place`] keeps a site for a program in another language, or a snapshot of one, with why its last call was refused. It goes
+//! from thread to thread, and one call at a time uses it.
 #![tactic(auto)]
 
 mod arguments;
@@ -13,8 +13,10 @@ mod by_banks;
 mod calling;
 mod changes;
 mod codes;
+mod content;
 mod embedded_site;
 mod faults;
+mod following;
 mod handle;
 mod kept;
 pub mod laws;

@@ -10,7 +10,7 @@ pub enum Question<'a> {
     /// The totals text. What is new is evaluated, and the text is written: O(n log n) in the banks held.
     Totals,
     /// The identities that two different messages held have: a line for each, ascending, such as `BANKDEFFXXX|pacs.008|M1`.
-    /// O(messages held).
+    /// O(c log c), for c messages held that are not the first of their identity.
     Contradictions,
     /// The text of the version vector: how many entries of each origin the site holds.
     Vector,
@@ -72,8 +72,8 @@ pub enum Question<'a> {
     /// The line of one bank, as the totals text has it, also if all its numbers are 0. What is new is evaluated; then expected
     /// O(1). Refusal: `BadArgument` (73) with 1 for the bank.
     Bank(&'a [u8]),
-    /// The report on a bank's list for a settlement day. What is new is evaluated; then O(n log n) in the transfers held and the
-    /// rows of the list.
+    /// The report on a bank's list for a settlement day. What is new is evaluated and filed by bank; then O(n log n) in the rows of
+    /// the list and the messages on transfers of the bank.
     /// Refusals: `BadArgument` (73), 1 for the bank and 2 for the day; `BadList` (48) with the first wrong record.
     Report {
         /// The bank.

@@ -22,7 +22,8 @@ use crate::texts::{push_identities, text_of_entries, text_of_messages, text_of_o
 use sct_delta::{is_site, read_vector};
 use sct_exchange::{write_cut, write_entries, write_held};
 use sct_keep::split;
-use sct_reconcile::{List, bank_of, day_of, reconcile_alone};
+use sct_reconcile::{List, bank_of, day_of, write_report};
+use sct_rights::report_rows;
 use std::alloc::AllocError;
 
 impl EmbeddedSite {
@@ -281,9 +282,10 @@ impl EmbeddedSite {
             return Err(EmbedFault::BadArgument(2));
         };
         let list = List::read(self.alloc, list)?;
-        self.showing.show_all(self.alloc, self.core.arrivals())?;
-        let report = reconcile_alone(self.alloc, &self.showing.view, &bank, &day, &list)?;
-        self.answer = report.write()?;
+        self.showing.show_by_bank(self.alloc, self.core.arrivals())?;
+        let (view, by_bank) = (&self.showing.view, &self.showing.shelf.by_bank);
+        let rows = report_rows(self.alloc, view, by_bank, &bank, &day, &list)?;
+        self.answer = write_report(self.alloc, &rows)?;
         Ok(())
     }
 

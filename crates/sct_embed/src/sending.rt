@@ -29,7 +29,7 @@ impl EmbeddedSite {
 
     /// Takes the message that one JSON object is a form of, if it may be sent in the name of the banks. The cost is that of the
     /// object, of one addition, and of filing what is new; for an answer also that of the messages on its transfer.
-    /// Errors: the first reason why the bytes are a form of no message (31 to 38, 46, 56); `Withheld` (80 to 83) with why the message
+    /// Errors: the first reason why the bytes are a form of no message (31 to 38, 46, 56); `Withheld` (81 to 84) with why the message
     /// may not be sent, or not yet; `Memory` (65).
     pub fn take_as(&mut self, banks: &[Bic], json: &[u8]) -> Result<Took, EmbedFault>
         ensures taken { IfOk result (λ took. IsTakenAs self.old.core banks.now json.now took self.new.core) }
@@ -40,7 +40,7 @@ impl EmbeddedSite {
     {
         let message = Arc::new(self.alloc, self.reader.read(json)?).map_err(AllocError::from)?;
         match self.permission(banks, &message)? {
-            Permission::Allowed => Ok(self.core.take(message)?),
+            Permission::Allowed => self.put(message),
             reason => Err(EmbedFault::Withheld(reason)),
         }
     }

@@ -1,4 +1,4 @@
-//! What follows the arrivals of a site: a view, digests, and what is filed for banks.
+//! What follows the arrivals of a site: a view, digests, what is filed by transfer and by bank, and the blocks that snapshots share.
 
 ghost use Rattle.std.specs.FinSet as set;
 ghost use Rattle.std.specs.Prelude.{◌≡◌, [], None, length, OnErr, OnOk};
@@ -15,12 +15,13 @@ use sct_delta::{Entry, messages_in};
 use sct_digest::Digests;
 use sct_message::Message;
 use sct_set::Archive;
+use sct_snapshot::Blocks;
 use sct_view::View;
 use std::alloc::{AllocError, Global};
 use std::sync::Arc;
 
 /// A view of the first arrivals of a site, what changed since its changes were asked for, digests of its entries, and those that are
-/// filed for banks.
+/// filed, and blocks of them that snapshots share.
 #[derive(Drop)]
 pub(crate) struct Showing {
     pub(crate) view: View,
@@ -30,8 +31,10 @@ pub(crate) struct Showing {
     pub(crate) watch: Option<Watch>,
     /// The digests that were worked out.
     pub(crate) digests: Digests,
-    /// What is filed for banks.
+    /// What is filed by transfer and by bank.
     pub(crate) shelf: Shelf,
+    /// The first arrivals, in blocks.
+    pub(crate) blocks: Blocks,
 }
 
 // Adds messages to a view of so many arrivals. The view of the first ones is built at once: that takes less than to evaluate a batch.
@@ -68,7 +71,17 @@ impl Showing {
             watch: None,
             digests: Digests::new(alloc),
             shelf: Shelf::new(alloc),
+            blocks: Blocks::new(alloc),
         }
+    }
+
+    /// Takes whole blocks of the arrivals in, if memory allows. O(messages that are new).
+    pub(crate) fn seal(&mut self, arrivals: &[Entry])
+        requires { IsShowing self.old arrivals.now }
+        ensures shown { IsShowing self.new arrivals.now }
+        ensures watched { watched_by self.new.watch ≡ watched_by self.old.watch }
+    {
+        let _ = self.blocks.follow(arrivals);
     }
 
     /// Has the view show all arrivals. Only those that it does not show yet are added. O(messages that are new, and those of
@@ -92,19 +105,55 @@ impl Showing {
     }
 
     /// Has all arrivals filed by transfer, as it has to be known who may send a message. O(transactions of the messages that are new).
-    #[tactic(auto, using(crate::proofs::ShelfLemmas::filed_of_all))]
+    #[tactic(auto, using(crate::proofs::ShelfLemmas::filed_by_transfer))]
     pub(crate) fn file_all(&mut self, alloc: Global, arrivals: &[Entry]) -> Result<(), AllocError>
         requires { IsShowing self.old arrivals.now }
         ensures shown { IsShowing self.new arrivals.now }
         ensures watched { watched_by self.new.watch ≡ watched_by self.old.watch }
         ensures filed { OnOk result (IsFiled (messages_of arrivals.now) self.new.shelf.by_transfer) }
     {
-        self.shelf.file_arrivals(alloc, arrivals)
+        self.shelf.file_by_transfer(alloc, arrivals)
     }
 
-    /// Has the view show all arrivals, and all of them filed, as questions of banks need it. O(messages that are new, and those of
+    /// Has the view show all arrivals, and all of them filed by transfer, as answers to banks on a transfer need it. O(messages that
+    /// are new, and those of the transfers that they touch).
+    #[tactic(auto, using(crate::proofs::ShelfLemmas::filed_by_transfer))]
+    pub(crate) fn show_by_transfer(
+        &mut self,
+        alloc: Global,
+        arrivals: &[Entry],
+    ) -> Result<(), AllocError>
+        requires { IsShowing self.old arrivals.now }
+        ensures shown { IsShowing self.new arrivals.now }
+        ensures watched { watched_by self.new.watch ≡ watched_by self.old.watch }
+        ensures view { OnOk result (self.new.view ≡ messages_of arrivals.now) }
+        ensures filed { OnOk result (IsFiled self.new.view self.new.shelf.by_transfer) }
+    {
+        self.show_all(alloc, arrivals)?;
+        self.shelf.file_by_transfer(alloc, arrivals)
+    }
+
+    /// Has the view show all arrivals, and all of them filed by bank, as reports need it. O(messages that are new, and those of
     /// the transfers that they touch).
-    #[tactic(auto, using(crate::proofs::ShelfLemmas::filed_of_all, crate::proofs::ShelfLemmas::filed_for_all))]
+    #[tactic(auto, using(crate::proofs::ShelfLemmas::filed_by_bank))]
+    pub(crate) fn show_by_bank(
+        &mut self,
+        alloc: Global,
+        arrivals: &[Entry],
+    ) -> Result<(), AllocError>
+        requires { IsShowing self.old arrivals.now }
+        ensures shown { IsShowing self.new arrivals.now }
+        ensures watched { watched_by self.new.watch ≡ watched_by self.old.watch }
+        ensures view { OnOk result (self.new.view ≡ messages_of arrivals.now) }
+        ensures by_bank { OnOk result (IsFiledForBanks self.new.view self.new.shelf.by_bank) }
+    {
+        self.show_all(alloc, arrivals)?;
+        self.shelf.file_by_bank(alloc, arrivals)
+    }
+
+    /// Has the view show all arrivals, and all of them filed in both ways, as reports for banks need it. O(messages that are new, and
+    /// those of the transfers that they touch).
+    #[tactic(auto, using(crate::proofs::ShelfLemmas::filed_by_transfer, crate::proofs::ShelfLemmas::filed_by_bank))]
     pub(crate) fn show_for_banks(
         &mut self,
         alloc: Global,
@@ -118,6 +167,7 @@ impl Showing {
         ensures by_bank { OnOk result (IsFiledForBanks self.new.view self.new.shelf.by_bank) }
     {
         self.show_all(alloc, arrivals)?;
-        self.shelf.file_arrivals(alloc, arrivals)
+        self.shelf.file_by_transfer(alloc, arrivals)?;
+        self.shelf.file_by_bank(alloc, arrivals)
     }
 }

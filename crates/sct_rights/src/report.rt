@@ -1,4 +1,4 @@
-//! The report for banks.
+//! The report of a bank: the hub's own, and the one for banks.
 ghost use Rattle.std.specs.FinSet as set;
 ghost use Rattle.std.specs.Prelude.{◌≡◌, ◌++◌, List as Rows, Some, map, filter, true, IfErr, IfOk, OnOk};
 ghost use Rattle.sct_element.specs.Text.{is_text};
@@ -7,7 +7,7 @@ ghost use Rattle.sct_set.specs.Buckets.{bucket};
 ghost use Rattle.sct_view.specs.Answers.{is_beneficiary};
 ghost use Rattle.sct_view.specs.Filed.{IsFiled};
 ghost use Rattle.sct_reconcile.specs.Filed.{IsFiled as IsListed};
-ghost use Rattle.sct_reconcile.specs.Reports.{is_of_day, keys_reported, listed_on};
+ghost use Rattle.sct_reconcile.specs.Reports.{is_of_day, keys_reported, listed_on, report_of, row_on};
 ghost use Rattle.sct_reconcile.specs.declared.fault.ReconcileFault.TheVariants as fault;
 ghost use Rattle.sct_reconcile.specs.declared.rows.ListedRow.{ListedRow as Row};
 ghost use Rattle.sct_rights.specs.ByBanks.{IsFiledForBanks, is_reported};
@@ -168,6 +168,23 @@ fn keys_reported(
 
 // ---- the rows
 
+// The rows of transfers in the hub's own report.
+fn rows_on(
+    alloc: Global,
+    view: &View,
+    rows: &[ListedRow],
+    keys: &[TransferKey],
+) -> Result<Vec<ReportRow>, AllocError>
+    ensures { IfOk result (λ found. found.items ≡ map (row_on view.now rows.now) keys.now) }
+{
+    let index = by_transfer(alloc, rows)?;
+    let mut found = Vec::with_capacity(alloc, keys.len())?;
+    for key in keys {
+        found.push(row_on(view, listed_on(rows, &index, key), key))?;
+    }
+    Ok(found)
+}
+
 // The row of a transfer for banks. `nothing` is a view of no messages.
 fn row_for(
     view: &View,
@@ -208,6 +225,26 @@ fn rows_for(
         found.push(row_for(view, &nothing, filed, banks, rows, &index, key))?;
     }
     Ok(found)
+}
+
+/// The rows of the hub's own report on a list of a bank, as `reconcile` has them. Error: `Memory` (49). O(n log n) in the rows of the
+/// list and the messages on transfers of the bank, however many messages the view holds.
+#[tactic(auto, unfolding(sct_reconcile::specs::Reports::report_of))]
+pub fn report_rows(
+    alloc: Global,
+    view: &View,
+    by_bank: &ByBank,
+    bank: &Bic,
+    day: &Day,
+    list: &List,
+) -> Result<Vec<ReportRow>, ReconcileFault>
+    requires { IsFiledForBanks view.now by_bank.now }
+    ensures rows { IfOk result (λ rows. rows.items ≡ report_of view.now bank.now day.now list.now) }
+    ensures fault { IfErr result (λ e. e ≡ fault.Memory) }
+{
+    let keys = keys_reported(alloc, view, by_bank, bank, day, list.rows())?;
+    let rows = rows_on(alloc, view, list.rows(), &keys)?;
+    Ok(rows)
 }
 
 /// The rows of the report on a list of a bank of theirs. They are those of the hub's own report, but of a transfer that is not

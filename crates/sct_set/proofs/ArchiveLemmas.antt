@@ -1,10 +1,9 @@
 -- What an archive's arrivals and its lines have to do with the set of its messages. Proof plumbing.
-use Rattle.std.proofs.Common.{◌≡◌, ℕ, suc, nat_eq, nat_lt, ◌+◌, Bool, true, false, cond, not, ◌||◌, List, [], ◌∷◌, ◌++◌, map, length, refl, sym, ap, ◌∙◌, filter, take, get_or, ◌<◌, Some, None}
+use Rattle.std.proofs.Common.{◌≡◌, ℕ, suc, nat_eq, nat_lt, ◌+◌, Bool, true, false, cond, not, ◌||◌, List, [], ◌∷◌, ◌++◌, length, refl, sym, ap, ◌∙◌, filter, take, get_or, ◌<◌, Some, None}
 use Rattle.std.specs.FinSet as set
 use Rattle.std.specs.Arc.{arc_value}
 use Rattle.std.specs.Global.{Global}
 use Rattle.std.specs.List.{list_any, slice_get}
-use Rattle.std.specs.Ordering.{eq_by_cmp}
 use Rattle.std.specs.declared.sync.Arc.{Arc}
 use Rattle.std.proofs.Math.Nat.{suc-ne-zero}
 use Rattle.std.proofs.lemmas.Bool.{eq-eqb, ne_eqb}
@@ -13,17 +12,14 @@ use Rattle.std.proofs.lemmas.List.{length-map, map-append}
 use Rattle.std.proofs.lemmas.Grind.{take_at_read}
 use Rattle.sct_message.specs.declared.draft.Draft.{Draft}
 use Rattle.sct_message.specs.declared.keys.Identity.{Identity}
-use Rattle.sct_message.specs.OrderLaws.{identity_total, identities_same}
 use Rattle.sct_message.specs.Keys.{identity_of}
-use Rattle.sct_message.specs.Order.{identity_order, same_message, same_identity}
-use Rattle.sct_message.specs.Ascending.{ascending}
-use Rattle.sct_message.proofs.AscendingLemmas.{ascending-same}
+use Rattle.sct_message.specs.Order.{same_message, same_identity}
 use Rattle.sct_message.proofs.Members.{list_any-filter, list_any-map}
 use Rattle.sct_message.proofs.SameValues.{identity_itself, message_is}
 use Rattle.sct_message.proofs.Tests.{none_kept, or_false}
 use Rattle.sct_set.specs.Archive.{added_of, added_where, has_identity}
 use Rattle.sct_set.specs.Contents.{Contents, contents_of}
-use Rattle.sct_set.specs.Contradictions.{contradicted_identities, is_disputed}
+use Rattle.sct_set.specs.Contradictions.{is_disputed}
 use Rattle.sct_set.specs.Digest.{digest_of}
 use Rattle.sct_set.specs.Drafts.{against_in, drafts_in, drafts_of, drafts_alike, finds}
 use Rattle.sct_set.specs.Filing.{is_first_in}
@@ -120,19 +116,6 @@ module _ (s : Contents) (m : Draft) where
   pub added-absent : (b : Bool) → set.contains s m ≡ false → b ≡ has_identity s (identity_of m) → added_where b ≡ added_of s m
   unfolding added_of
   added-absent b absent has = ap added_where has ∙ ap (λ (b : Bool). cond b added.Repeat (added_where (has_identity s (identity_of m)))) (sym absent)
-
--- ---- contradictions
-
-pub contradicted_identities-contents_of : (ds : List Draft)
-    → contradicted_identities (contents_of ds) ≡ ascending identity_order (map identity_of (filter (is_disputed (contents_of ds)) ds))
-unfolding contradicted_identities
-contradicted_identities-contents_of ds =
-    ascending-same identity_total identities_same _ _ (λ q.
-    list_any-map (eq_by_cmp identity_order q) identity_of _
-    ∙ list_any-filter _ (is_disputed (contents_of ds)) (set.items (contents_of ds))
-    ∙ any_items _ ds
-    ∙ sym (list_any-filter _ (is_disputed (contents_of ds)) ds)
-    ∙ sym (list_any-map (eq_by_cmp identity_order q) identity_of _))
 
 -- a message is disputed where those of its identity are not all the same as it
 pub disputed-is : (ms : List (Arc Draft Global)) (ds : List Draft) (m : Draft) → drafts_in ms ≡ drafts_of (identity_of m) ds

@@ -135,7 +135,7 @@ impl Archive {
     }
 
     /// The contradicted identities, ascending, each once: those that two different messages held have.
-    /// Error: `Memory` (39). O(n + c log c), for n messages held of which c have such an identity.
+    /// Error: `Memory` (39). O(c log c), for c messages held that are not the first of their identity to arrive.
     pub fn contradictions(&self) -> Result<Vec<Identity>, SetFault>
         ensures { IfOk result (λ identities. identities.items ≡ contradicted_identities self.now) }
     {

@@ -1,11 +1,11 @@
 //! The messages of an archive in the order of their arrival, with two indexes: one by identity, and one by digest of
 //! the messages that are not the first of their identity.
 
-ghost use Rattle.std.specs.Prelude.{◌≡◌, ◌≤◌, ◌++◌, ◌∷◌, ◌-◌, ◌+◌, ℕ, [], List, true, false, not, is_some, map, filter, nat_eq, length, take, if◌then◌else◌, IfOk, OnOk, OnErr};
+ghost use Rattle.std.specs.Prelude.{◌≡◌, ◌≤◌, ◌++◌, ◌∷◌, ◌-◌, ◌+◌, ℕ, [], List, true, false, not, is_some, map, nat_eq, length, take, if◌then◌else◌, IfOk, OnOk, OnErr};
 ghost use Rattle.std.specs.Arc.{arc_value};
 ghost use Rattle.std.specs.FinSet as set;
 ghost use Rattle.std.specs.List.{list_any};
-ghost use Rattle.indexmap.specs.IndexMap.{get};
+ghost use Rattle.indexmap.specs.IndexMap.{get, IsUnique};
 ghost use Rattle.sct_message.specs.declared.draft.Draft.{Draft as DraftOf};
 ghost use Rattle.sct_message.specs.Keys.{identity_of};
 ghost use Rattle.sct_message.specs.Order.{same_identity, same_message};
@@ -15,7 +15,7 @@ ghost use Rattle.sct_set.specs.Contents.{contents_of, HasNoRepeat};
 ghost use Rattle.sct_set.specs.Contradictions.{contradicted_identities, is_disputed};
 ghost use Rattle.sct_set.specs.Digest.{digest_of};
 ghost use Rattle.sct_set.specs.Drafts.{against_in, drafts_alike, drafts_in, drafts_of, finds, IsIndexBy};
-ghost use Rattle.sct_set.specs.Filing.{is_first_in, with_new};
+ghost use Rattle.sct_set.specs.Filing.{identities_filed, is_first_in, with_new};
 ghost use Rattle.sct_set.specs.declared.arrivals.Filing.TheVariants as front;
 
 use crate::added::Added;
@@ -184,6 +184,31 @@ fn file_by_digest(
     let handle = message.clone()?;
     file(alloc, index, digest(message), handle)?;
     Ok(())
+}
+
+// Appends the identity of each message.
+fn push_identities(
+    identities: &mut Vec<Identity>,
+    messages: &[Arc<Message>],
+) -> Result<(), AllocError>
+    ensures { OnOk result (identities.new.items ≡ identities.old.items ++ map identity_of (drafts_in messages.now)) }
+{
+    for message in messages {
+        identities.push(message.identity())?;
+    }
+    Ok(())
+}
+
+// The identity of each message that is filed by its digest.
+fn identities_filed(alloc: Global, index: &ByDigest) -> Result<Vec<Identity>, AllocError>
+    ensures identities { IfOk result (λ found. found.items ≡ identities_filed index.now.entries) }
+    ensures unique { IfOk result (λ found. IsUnique nat_eq index.now) }
+{
+    let mut found = Vec::new(alloc);
+    for (_, messages) in index {
+        push_identities(&mut found, messages.items())?;
+    }
+    Ok(found)
 }
 
 // Whether there are messages of an identity.
@@ -412,26 +437,14 @@ impl Arrivals {
         }
     }
 
-    // The identity of each disputed message, in the order of arrival, one entry for each message.
-    fn disputed_identities(&self) -> Result<Vec<Identity>, AllocError>
-        ensures { IfOk result (λ found.
-            found.items ≡ map identity_of (filter (is_disputed (contents_of self.now)) self.now)) }
-    {
-        let mut found = Vec::new(self.alloc);
-        for message in self.messages() {
-            if self.disputes(message) {
-                found.push(message.identity())?;
-            }
-        }
-        Ok(found)
-    }
-
     /// The contradicted identities, ascending, each once: those that two different messages have.
+    /// O(c log c), for c messages that are not the first of their identity.
     pub(crate) fn contradictions(&self) -> Result<Vec<Identity>, AllocError>
+        requires { HasNoRepeat self.now }
         ensures { IfOk result (λ identities. identities.items ≡ contradicted_identities (contents_of self.now)) }
     {
         keys_are_ordered();
-        let mut identities = self.disputed_identities()?;
+        let mut identities = identities_filed(self.alloc, &self.by_digest)?;
         identities.sort()?;
         identities.dedup();
         Ok(identities)

@@ -7,6 +7,7 @@ pub mod Arriving
 pub mod CutRangeLemmas
 pub mod HeldLemmas
 pub mod MessageLemmas
+pub mod NextLemmas
 pub mod Prefixes
 pub mod RangeLemmas
 pub mod SiteLemmas

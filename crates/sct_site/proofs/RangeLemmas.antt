@@ -1,8 +1,8 @@
 -- What ranges of logs have. It serves sites and worlds.
-use Rattle.std.proofs.Common.{◌≡◌, ◌∙◌, refl, ap, sym, inl, inr, ℕ, ◌+◌, ◌-◌, ◌≤◌, ◌<◌, Bool, true, false, cond, List, [], ◌∷◌, ◌++◌, filter, length, append_assoc, drop, take, get_or, Option, Some, None, max, min, arith, nat_lt}
-use Rattle.std.specs.List.{slice_get, AllByRecursion}
+use Rattle.std.proofs.Common.{◌≡◌, ◌∙◌, refl, ap, sym, inl, inr, ℕ, ◌+◌, ◌-◌, ◌≤◌, ◌<◌, true, false, List, [], ◌∷◌, ◌++◌, filter, length, append_assoc, drop, take, get_or, Option, Some, None, max, min, arith, nat_lt}
+use Rattle.std.specs.List.{slice_get}
 use Rattle.std.proofs.Math.Nat.{le-min, max-eq_left, max-eq_right, min-le_left, min-le_right}
-use Rattle.std.proofs.lemmas.Bool.{lt-ltb, ltb-true}
+use Rattle.std.proofs.lemmas.Bool.{ltb-true}
 use Rattle.std.proofs.lemmas.Bool.Decides.{nat_tests}
 use Rattle.std.proofs.lemmas.Option.{slice_get_cases, slice_get_within, get_or_from_slice_get}
 use Rattle.std.proofs.lemmas.List.{append-nil, drop-drop, drop_all, get_or_default, get_or-take, length-append, length-drop, length-take, length-take-le, take-append-le, take_more}
@@ -14,7 +14,7 @@ use Rattle.sct_message.specs.declared.draft.Draft.{Draft}
 use Rattle.sct_delta.specs.Entries.{Placed, is_from, entries_from, log_of, numbered, place_order, IsDelta, HasNoHole}
 use Rattle.sct_delta.specs.Refusals.{message_at}
 use Rattle.sct_delta.specs.Sites.{is_site}
-use Rattle.sct_delta.proofs.EntryLemmas.{length-numbered, not_zero, numbered-step, run_is}
+use Rattle.sct_delta.proofs.EntryLemmas.{length-numbered, numbered-step, run_is}
 use Rattle.sct_delta.proofs.JoinLemmas.{above_count, all_above}
 use Rattle.sct_delta.proofs.TestLemmas.{all_kept, filter_agree, filter_comm}
 use Rattle.sct_delta.proofs.LawLemmas.{at_place}

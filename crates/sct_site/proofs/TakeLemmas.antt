@@ -14,7 +14,7 @@ use Rattle.sct_delta.specs.Entries.{Placed, log_of, held_from, messages_of}
 use Rattle.sct_delta.specs.Logs.{HeldLogs, log_in, HoldSame, KeepsNoEmpty}
 use Rattle.sct_delta.specs.Refusals.{has_site}
 use Rattle.sct_delta.proofs.EntryLemmas.{log-append}
-use Rattle.sct_site.specs.Cores.{Core, is_open, is_repeat, next_own, own_entry, took_by, arrivals_taken}
+use Rattle.sct_site.specs.Cores.{Core, is_open, is_repeat, next_entry, next_own, own_entry, took_by, arrivals_taken}
 use Rattle.sct_site.specs.Inside.{IsCore}
 use Rattle.sct_site.specs.declared.answers.Took.TheVariants as took
 use Rattle.sct_site.proofs.ArrivalLemmas.{arrivals-push, length-log}
@@ -83,7 +83,28 @@ log-push o es e =
 pub next_is : (o : ℕ) (log : List Draft) (es : List Placed) → log ≡ log_of o es → length log + 1 ≡ held_from o es + 1
 next_is o log es is = ap (λ (l : List Draft). length l + 1) is ∙ ap (λ (n : ℕ). n + 1) (length-log o es)
 
--- logs, arrivals and archive with one own entry more
+-- logs, arrivals and archive with one entry more
+pub IsCore-pushed : (number group origin : ℕ) (old new : HeldLogs) (es fs : List Placed) (s t : Contents) (m : Draft)
+    → IsCore number group old es s
+    → new.group ≡ old.group
+    → ((o : ℕ) → log_in new o ≡ cond (nat_eq origin o) (log_in old o ++ m ∷ []) (log_in old o))
+    → KeepsNoEmpty new
+    → t ≡ set.insert s m
+    → fs ≡ es ++ next_entry origin es m ∷ []
+    → IsCore number group new fs t
+IsCore-pushed number group origin old new es fs s t m was same logged filled held came =
+    let entry : Placed = next_entry origin es m in
+    rw came
+    (record {
+      opened = was.opened;
+      one_group = same ∙ was.one_group;
+      order = arrivals-push es entry was.order refl;
+      by_origin = λ o. logged o ∙ ap (λ (l : List Draft). cond (nat_eq origin o) (l ++ m ∷ []) l) (was.by_origin o) ∙ log-push o es entry;
+      filled = filled;
+      messages = held ∙ ap (λ (c : Contents). set.insert c m) was.messages ∙ messages-push es entry;
+    })
+
+-- with one own entry more
 pub IsCore-taken : (number group : ℕ) (old new : HeldLogs) (es fs : List Placed) (s t : Contents) (m : Draft)
     → IsCore number group old es s
     → new.group ≡ old.group
@@ -92,17 +113,7 @@ pub IsCore-taken : (number group : ℕ) (old new : HeldLogs) (es fs : List Place
     → t ≡ set.insert s m
     → fs ≡ es ++ own_entry (record { number = number; group = group; arrivals = es }) m ∷ []
     → IsCore number group new fs t
-IsCore-taken number group old new es fs s t m was same logged filled held came =
-    let entry : Placed = own_entry (record { number = number; group = group; arrivals = es }) m in
-    rw came
-    (record {
-      opened = was.opened;
-      one_group = same ∙ was.one_group;
-      order = arrivals-push es entry was.order refl;
-      by_origin = λ o. logged o ∙ ap (λ (l : List Draft). cond (nat_eq number o) (l ++ m ∷ []) l) (was.by_origin o) ∙ log-push o es entry;
-      filled = filled;
-      messages = held ∙ ap (λ (c : Contents). set.insert c m) was.messages ∙ messages-push es entry;
-    })
+IsCore-taken number group = IsCore-pushed number group number
 
 -- a message that is held leaves them as they are
 pub IsCore-held : (number group : ℕ) (old new : HeldLogs) (es fs : List Placed) (s t : Contents) (m : Draft)

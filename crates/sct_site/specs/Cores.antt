@@ -61,6 +61,17 @@ arrivals_taken core message =
 abbrev pub core_taken : Core → Draft → Core
 core_taken core message = record { number = core.number; group = core.group; arrivals = arrivals_taken core message }
 
+-- ---- putting in a message of any origin
+
+-- the message as the next entry of an origin
+abbrev pub next_entry : ℕ → List Placed → Draft → Placed
+next_entry origin arrivals message = record { origin = origin; n = held_from origin arrivals + 1; message = message }
+
+-- the site after it is put in
+abbrev pub core_pushed : Core → ℕ → Draft → Core
+core_pushed core origin message =
+    record { number = core.number; group = core.group; arrivals = core.arrivals ++ next_entry origin core.arrivals message ∷ [] }
+
 -- ---- accepting a delta
 
 -- the first reason why the site does not accept the delta, if there is one

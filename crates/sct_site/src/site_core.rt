@@ -1,6 +1,6 @@
 //! The core of one site.
 
-ghost use Rattle.std.specs.Prelude.{◌≡◌, ◌∷◌, ◌++◌, ◌<◌, ◌≤◌, ◌^◌, ℕ, [], true, false, None, vec_len, vec_capacity, filter, length, nat_eq, nat_lt, IsOk, OnOk, OnErr, IfOk, IfErr, MatchOption};
+ghost use Rattle.std.specs.Prelude.{◌≡◌, ◌≢◌, ◌∷◌, ◌++◌, ◌<◌, ◌≤◌, ◌^◌, ℕ, [], true, false, None, vec_len, vec_capacity, filter, length, nat_eq, nat_lt, IsOk, OnOk, OnErr, IfOk, IfErr, MatchOption};
 ghost use Rattle.std.specs.Arc.{arc_value};
 ghost use Rattle.std.specs.FinSet as set;
 ghost use Rattle.sct_message.specs.Sets.{messages_in};
@@ -9,7 +9,7 @@ ghost use Rattle.sct_delta.specs.Logs.{HasRoom, HoldSame, KeepsEmptyIfDue, Keeps
 ghost use Rattle.sct_delta.specs.Refusals.{has_site};
 ghost use Rattle.sct_delta.specs.Vectors.{count_in};
 ghost use Rattle.sct_delta.specs.declared.fault.DeltaFault.TheVariants as fault;
-ghost use Rattle.sct_site.specs.Cores.{Core, IsSite, is_open, took_by, arrivals_taken, refusal_by, fresh_entries, arrivals_joined, entries_above, is_above, logs_of};
+ghost use Rattle.sct_site.specs.Cores.{Core, IsSite, core_pushed, is_open, took_by, arrivals_taken, refusal_by, fresh_entries, arrivals_joined, entries_above, is_above, logs_of};
 ghost use Rattle.sct_site.specs.Ranges.{in_range, in_ranges, size_of, HaveEntries, ReachEnds};
 
 use crate::answers::{Accepted, Took};
@@ -181,6 +181,27 @@ impl SiteCore {
             message,
         });
         Ok(Took::Taken { n })
+    }
+
+    /// Puts in a message as the next entry of an origin, whether or not it is held under another number. So a site is made that holds
+    /// what another one does. Errors: `BadSite` (44) if the group does not have the origin; `Memory` (40). Then the site is
+    /// unchanged. The cost is one look-up in the archive and one addition in the logs.
+    pub fn push(&mut self, origin: u16, message: Arc<Message>) -> Result<(), DeltaFault>
+        ensures ok { OnOk result (self.new ≡ core_pushed self.old origin (arc_value message)) }
+        ensures err { IfErr result (λ refusal. refusal ≢ fault.Memory → (refusal ≡ fault.BadSite) × (has_site self.old.group origin ≡ false)) }
+        ensures unchanged { OnErr result (self.new ≡ self.old) }
+    {
+        let held = message.clone()?;
+        let logged = message.clone()?;
+        self.arrivals.reserve(1)?;
+        self.logs.room(origin)?;
+        if let Err(_) = self.archive.add(held) {
+            self.logs.drop_empty();
+            return Err(DeltaFault::Memory);
+        }
+        let n = self.logs.push_reserved(origin, logged);
+        self.arrivals.push_reserved(Entry { origin, n, message });
+        Ok(())
     }
 
     /// Why the site does not accept a delta, as by [`SiteCore::accept`]. None if it does. It does not allocate.

@@ -110,6 +110,8 @@ final class Library {
 
     static native AcceptedOutcome sct_raw_accept(Pointer site, byte[] text, long length);
 
+    static native Outcome sct_raw_snapshot(Pointer site, Pointer snapshot);
+
     static native Outcome sct_raw_counts(Pointer site, long[] counts, long items);
 
     static native Outcome sct_raw_vector_text(Pointer site);

@@ -10,7 +10,7 @@ import java.util.Optional;
  */
 public final class NiluppangException extends RuntimeException {
     private static final long serialVersionUID = 2L;
-    private static final int WAITS = 83;
+    private static final int WAITS = 84;
 
     private final int number;
     private final long place;
@@ -58,7 +58,7 @@ public final class NiluppangException extends RuntimeException {
         return reason;
     }
 
-    /** The transfer whose instruction a message waits for, if the number is 83. Empty with every other number and reason. */
+    /** The transfer whose instruction a message waits for, if the number is 84. Empty with every other number and reason. */
     public Optional<Site.Transfer> waitsFor() {
         String[] words = reason.split(" ", 3);
         return number == WAITS && words.length == 3 ? Optional.of(new Site.Transfer(words[1], words[2])) : Optional.empty();

@@ -224,7 +224,7 @@ public final class SiteTest {
         while (row.find()) {
             table.put(Integer.parseInt(row.group(1)), new String[] {row.group(2), row.group(3)});
         }
-        is("the header has 26 numbers", table.size() == 26);
+        is("the header has 27 numbers", table.size() == 27);
         for (int number = 0; number < 256; number++) {
             String[] words = table.getOrDefault(number, new String[] {"Unknown", "a number of a later version"});
             if (!Library.name(number).equals(words[0]) || !Library.meaning(number).equals(words[1])) {
@@ -316,10 +316,10 @@ public final class SiteTest {
         String several = recall(RECALLED + "," + RECALLED.replace("BANKDEFF", "BANKITMM"));
         refused("no banks", 73, 1, "73 1", () -> site.takeAs("BANKDEFF,", "{"));
         refused("no message", 31, 0, "31", () -> site.takeAs("BANKITMM", "{"));
-        refused("another sender", 80, 0, "80", () -> site.takeAs("BANKITMM", instruction(4)));
-        refused("another originator bank", 81, 2, "81 2", () -> site.takeAs("BANKDEFF", several));
-        refused("another beneficiary bank", 82, 0, "82", () -> site.takeAs("BANKITMM", confirmation(3, "BANKITMM")));
-        refused("an early answer", 83, 0, "83 BANKDEFFXXX T4", () -> site.takeAs("BANQFRPP", confirmation(4, "BANQFRPP")));
+        refused("another sender", 81, 0, "81", () -> site.takeAs("BANKITMM", instruction(4)));
+        refused("another originator bank", 82, 2, "82 2", () -> site.takeAs("BANKDEFF", several));
+        refused("another beneficiary bank", 83, 0, "83", () -> site.takeAs("BANKITMM", confirmation(3, "BANKITMM")));
+        refused("an early answer", 84, 0, "84 BANKDEFFXXX T4", () -> site.takeAs("BANQFRPP", confirmation(4, "BANQFRPP")));
         String spaced = confirmation(4, "BANQFRPP").replace("\"T4\"", "\"T 4 B\"");
         for (String[] one : new String[][] {{confirmation(4, "BANQFRPP"), "T4"}, {spaced, "T 4 B"}}) {
             is("the transfer that is waited for: " + one[1], failure(() -> site.takeAs("BANQFRPP", one[0])) instanceof NiluppangException waits
@@ -332,18 +332,28 @@ public final class SiteTest {
 
     /** Each call after the site was closed. */
     private static void closed(Site site) {
-        List<Call> calls = List.of(() -> site.take(""), () -> site.takeLines(bytes("")), () -> site.accept(bytes("")), site::counts,
+        List<Call> calls = List.of(() -> site.take(""), () -> site.takeLines(bytes("")), () -> site.accept(bytes("")),
+            () -> site.takeAs("BANKDEFF", ""), site::changes);
+        for (Call call : calls) {
+            refused("a site that is closed", 70, 0, "", call);
+        }
+        closedToQuestions(site);
+    }
+
+    /** Each question after a site or a snapshot was closed. */
+    private static void closedToQuestions(Questions site) {
+        List<Call> calls = List.of(site::snapshot, site::counts,
             () -> site.reading(bytes("")), site::vectorText, () -> site.cut("-"), () -> site.cutStream("-"), site::cutAbove,
             () -> site.entries(1, 0, 1), () -> site.digest(1, 0), site::digestsText, () -> site.journal(0), () -> site.journalStream(0), () -> site.newest(1), site::evaluate, site::archiveText,
-            site::archiveStream, site::statusText, site::statusStream, site::totalsText, site::contradictionsText, site::changes,
+            site::archiveStream, site::statusText, site::statusStream, site::totalsText, site::contradictionsText,
             site::answer, site::answerEnd,
             () -> site.report("BANKDEFF", "2024-05-02", bytes("")), () -> site.keptText("2024-05-02"),
             () -> site.closedText("2024-05-02"), () -> site.transfer("BANKDEFF", "T1"),
-            () -> site.messages("BANKDEFF", "T1"), () -> site.bankTotals("BANKDEFF"), () -> site.takeAs("BANKDEFF", ""),
+            () -> site.messages("BANKDEFF", "T1"), () -> site.bankTotals("BANKDEFF"),
             () -> site.transferFor("BANKDEFF", "BANKDEFF", "T1"), () -> site.messagesFor("BANKDEFF", "BANKDEFF", "T1"),
             () -> site.bankTotalsFor("BANKDEFF", "BANKDEFF"), () -> site.reportFor("BANKDEFF", "BANKDEFF", "2024-05-02", bytes("")));
         for (Call call : calls) {
-            refused("a site that is closed", 70, 0, "", call);
+            refused("a question to what is closed", 70, 0, "", call);
         }
         site.close();
         is("it is closed", site.isClosed());
@@ -358,6 +368,7 @@ public final class SiteTest {
             byte[] answer = site.statusText();
             questions(site);
             withheld(site);
+            snapshotTakes(site);
             same("the answer is as it was", site.answer(), answer);
             is("and what is held", Arrays.equals(site.counts(), new long[] {1, 1, 0}) && !site.isClosed());
             site.close();
@@ -368,7 +379,7 @@ public final class SiteTest {
             refused("a site", 44, 0, "", () -> Site.restore(one[0], one[1], bytes("x"), bytes("")));
         }
         Set<Integer> all = new TreeSet<>(table.keySet());
-        all.removeAll(Set.of(65, 71));
+        all.remove(65);
         is("each number is met", MET.equals(all));
     }
 
@@ -529,6 +540,135 @@ public final class SiteTest {
             same("of all", site.digest(1, 3), hex(chained(new byte[32], 9, 7, 4)));
             same("of two sites", site.digestsText(), "1:3:" + hex(chained(new byte[32], 9, 7, 4)) + "\n2:1:" + hex(chained(new byte[32], 8)) + "\n");
         }
+    }
+
+    // ---- snapshots
+
+    /** A snapshot of a site takes nothing, whatever it is given. The calls of the library are made on its handle. */
+    private static void snapshotTakes(Site site) {
+        try (Snapshot snapshot = site.snapshot()) {
+            for (String text : new String[] {instruction(9), "{", "x", "delta 2\nend 0\n"}) {
+                byte[] one = bytes(text);
+                byte[] banks = bytes("BANKDEFF");
+                refused("a message to a snapshot", 85, 0, "85", () -> {
+                    Library.TakenOutcome done = Library.sct_raw_take(snapshot.handle, one, one.length);
+                    snapshot.check(done.ok, done.code, done.place);
+                });
+                refused("a message of a bank to a snapshot", 85, 0, "85", () -> {
+                    Library.TakenOutcome done = Library.sct_raw_take_as(snapshot.handle, banks, banks.length, one, one.length);
+                    snapshot.check(done.ok, done.code, done.place);
+                });
+                refused("lines to a snapshot", 85, 0, "85", () -> {
+                    Library.LinesOutcome done = Library.sct_raw_take_lines(snapshot.handle, one, one.length);
+                    snapshot.check(done.ok, done.code, done.place);
+                });
+                refused("a delta to a snapshot", 85, 0, "85", () -> {
+                    Library.AcceptedOutcome done = Library.sct_raw_accept(snapshot.handle, one, one.length);
+                    snapshot.check(done.ok, done.code, done.place);
+                });
+            }
+            refused("a site in the place of a snapshot", 71, 0, "85",
+                () -> snapshot.checked(Library.sct_raw_open(snapshot.handle, (short) 1, (short) 1)));
+            refused("a snapshot in the place of one", 71, 0, "",
+                () -> site.checked(Library.sct_raw_snapshot(site.handle, snapshot.handle)));
+            is("what the snapshot holds", Arrays.equals(snapshot.counts(), site.counts()) && snapshot.answer().length == 0);
+        }
+    }
+
+    /** What a site of two instructions, and of one that it accepted, is asked, each answer as text. */
+    private static List<String> asked(Questions of) {
+        byte[] list = bytes("DbtrAgt,TxId,Amt,Sts\n");
+        List<byte[]> found = List.of(of.vectorText(), of.cut("1:1"), of.cutAbove(1), of.entries(1, 1, 1 << 20), of.digestsText(),
+            of.journal(1), of.newest(2), of.archiveText(), of.statusText(), of.totalsText(), of.contradictionsText(),
+            of.report("BANKDEFF", "2024-05-02", list), of.keptText("2024-05-02"), of.closedText("2025-01-01"),
+            of.transfer("BANKDEFF", "T1"), of.messages("BANKDEFF", "T1"), of.bankTotals("BANKDEFF"),
+            of.transferFor("BANQFRPP", "BANKDEFF", "T1"), of.messagesFor("BANQFRPP", "BANKDEFF", "T1"),
+            of.bankTotalsFor("BANQFRPP", "BANQFRPP"), of.reportFor("BANQFRPP", "BANQFRPP", "2024-05-02", list));
+        List<String> texts = new ArrayList<>(found.stream().map(SiteTest::string).toList());
+        texts.add(Arrays.toString(of.counts()));
+        return texts;
+    }
+
+    /** A snapshot answers as its site did when it was made, and the site goes on. */
+    private static void snapshots(Path folder) throws IOException {
+        Site site = new Site(1, 3);
+        site.take(instruction(1));
+        site.take(instruction(2));
+        site.accept(delta(2, 1, 5));
+        List<String> then = asked(site);
+        Snapshot snapshot = site.snapshot();
+        Snapshot again = snapshot.snapshot();
+        Snapshot third = site.snapshot();
+        third.close();
+        is("a snapshot has no answer", snapshot.answer().length == 0 && snapshot.number() == 1 && snapshot.group() == 3);
+        site.take(instruction(2).replace("\"T2\"", "\"T7\""));
+        site.take(confirmation(1, "BANQFRPP"));
+        site.take(confirmation(2, "BANQFRPP"));
+        site.accept(delta(2, 2, 6));
+        same("the status of a snapshot", snapshot.statusText(),
+            "T|BANKDEFFXXX|T1|PENDING\nT|BANKDEFFXXX|T2|PENDING\nT|BANKDEFFXXX|T5|PENDING\n");
+        same("its journal", snapshot.journal(0), archived(1) + archived(2));
+        same("the transfer at the site", site.transfer("BANKDEFF", "T1"), "T|BANKDEFFXXX|T1|ACCEPTED\n");
+        List<String> now = asked(site);
+        List<String> found = asked(snapshot);
+        for (int at = 0; at < then.size(); at++) {
+            is("question " + at + " to a snapshot", found.get(at).equals(then.get(at)) && !now.get(at).equals(then.get(at)));
+        }
+        closedToQuestions(third);
+        site.close();
+        is("a snapshot of a site that is closed", asked(snapshot).equals(then) && !snapshot.isClosed());
+        snapshot.close();
+        is("a snapshot of a snapshot that is closed", asked(again).equals(then));
+        refused("another snapshot of it", 70, 0, "", snapshot::snapshot);
+        again.close();
+        try (Site day = new Site(1, 1)) {
+            day.takeLines(Files.readAllBytes(folder.resolve("bank-day.jsonl")));
+            try (Snapshot held = day.snapshot()) {
+                day.take(instruction(1));
+                byte[] archive = Files.readAllBytes(folder.resolve("bank-day.archive"));
+                InputStream stream = held.archiveStream();
+                byte[] first = stream.readNBytes(10);
+                day.statusText();
+                is("a stream of a snapshot", Arrays.equals(first, Arrays.copyOf(archive, 10))
+                    && Arrays.equals(stream.readAllBytes(), Arrays.copyOfRange(archive, 10, archive.length)));
+                same("the day's status", held.statusText(), Files.readAllBytes(folder.resolve("bank-day.status")));
+                same("the day's totals", held.totalsText(), Files.readAllBytes(folder.resolve("bank-day.totals")));
+                is("another one at the site", !Arrays.equals(day.archiveText(), archive));
+            }
+        }
+    }
+
+    /** One thread takes, and each other one asks snapshots: each answers on as many of the first messages as it counts. */
+    private static void snapshotsBesideTakes() throws InterruptedException {
+        int many = 300;
+        CountDownLatch over = new CountDownLatch(1);
+        boolean[] isRight = {true, true, true, true};
+        try (Site site = new Site(1, 1)) {
+            run(4, which -> {
+                if (which == 0) {
+                    for (int number = 0; number < many; number++) {
+                        site.take(instruction(1000 + number));
+                    }
+                    over.countDown();
+                    return;
+                }
+                long least = 0;
+                for (boolean isLast = false; !isLast;) {
+                    isLast = over.getCount() == 0;
+                    try (Snapshot snapshot = site.snapshot()) {
+                        long held = snapshot.counts()[0];
+                        StringBuilder right = new StringBuilder();
+                        for (int number = 0; number < held; number++) {
+                            right.append("T|BANKDEFFXXX|T").append(1000 + number).append("|PENDING\n");
+                        }
+                        isRight[which] &= held >= least && string(snapshot.statusText()).equals(right.toString());
+                        least = held;
+                    }
+                }
+                isRight[which] &= least == many;
+            });
+        }
+        is("three threads ask snapshots while one takes", isRight[1] && isRight[2] && isRight[3]);
     }
 
     // ---- streams
@@ -702,6 +842,8 @@ public final class SiteTest {
         arrivals();
         entries();
         digests();
+        snapshots(folder);
+        snapshotsBesideTakes();
         streams(folder);
         threads(folder);
         reasons();

@@ -1,5 +1,5 @@
 -- All arrivals are shown, so what changed since changes were asked for is known; and the watch begins anew.
-use Rattle.std.proofs.Common.{◌∙◌, ap, subst, sym, refl, ℕ, List}
+use Rattle.std.proofs.Common.{◌∙◌, ap, subst, refl, ℕ, List}
 use Rattle.sct_delta.specs.Entries.{Placed}
 use Rattle.sct_embed.specs.Embeddings.{Embedding}
 use Rattle.sct_embed.specs.Questions.{changes_since}
@@ -15,6 +15,7 @@ invariant_of-self-2 c =
       watched = watched_anew c.show_all.new.self.count c.self.inside.core.arrivals (record { asked = c.show_all.new.self.count; changed = c.new.result }) refl c.new.ensures.items;
       digests = showing.digests;
       shelf = showing.shelf;
+      blocks = showing.blocks;
     }
 
 pub returns-clause-answer : goal.returns-clause-answer

@@ -47,17 +47,18 @@ returns-clause-taken c =
     c.len.ensures ∙ sym c.deref.ensures.len ∙ sym (length-map c.deref.result.now arc_value) in
     let first : length c.arrivals-before.result.now ≡ length core.arrivals = ap length c.arrivals-before.ensures.arrivals in
     let last : length c.arrivals.result.now ≡ length after.arrivals = ap length c.arrivals.ensures.arrivals in
+    let sealed : length c.seal.new.self.core.arrivals ≡ length after.arrivals = ap (λ (e : Embedding). length e.core.arrivals) c.seal.ensures in
     let count : length (messages_in c.deref.result.now) ≡ length (messages_read c.args.text.now) = ap length read in
     let fresh = length c.arrivals.result.now - length c.arrivals-before.result.now in
     let taken : TakenLines = record { fresh = fresh; repeats = c.len.result - fresh; refused = c.into_parts-refused_text.result.1 } in
-    subst (λ (before : Core). AreTaken before c.args.text.now taken after) (ap (λ (e : Embedding). e.core) c.self.view_is)
+    subst (λ (before : Core). AreTaken before c.args.text.now taken c.seal.new.self.core) (ap (λ (e : Embedding). e.core) c.self.view_is)
     (record {
-      left = c.in_ok-take_all.ensures.ok ∙ ap (core_taking core) read;
-      fresh = omega (arith, grows.least, first, last);
+      left = ap (λ (e : Embedding). e.core) c.seal.ensures ∙ c.in_ok-take_all.ensures.ok ∙ ap (core_taking core) read;
+      fresh = omega (arith, grows.least, first, last, sealed);
       repeats = omega (arith, grows.least, grows.most, as_many, count);
       refused = c.into_parts-refused_text.ensures.count ∙ c.in_ok-intake.ensures.refused;
     })
 
 pub returns-clause-told : goal.returns-clause-told
 unfolding told_text_of told_after
-returns-clause-told c = ap (λ v. v.items) c.into_bytes.ensures.value ∙ c.into_parts-refused_text.ensures.text ∙ c.in_ok-intake.ensures.told
+returns-clause-told c = ap (λ (e : Embedding). e.answer) c.seal.ensures ∙ ap (λ v. v.items) c.into_bytes.ensures.value ∙ c.into_parts-refused_text.ensures.text ∙ c.in_ok-intake.ensures.told

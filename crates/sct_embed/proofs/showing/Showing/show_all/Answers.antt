@@ -33,4 +33,5 @@ returns-clause-shown c =
           (subst (λ (b : MessageSet). IsLater was c.args.self.now.view b later) batch c.in_ok-watch.ensures));
       digests = c.requires.digests;
       shelf = c.requires.shelf;
+      blocks = c.requires.blocks;
     }

@@ -1,5 +1,5 @@
 -- The longer of two beginnings of one history has the other as its beginning.
-use Rattle.std.proofs.Common.{◌≡◌, ◌≤◌, ap, subst, arith, length, List, refl, inl, inr}
+use Rattle.std.proofs.Common.{◌≤◌, ap, subst, arith, length, List, refl, inl, inr}
 use mathlib.Core.List.{IsPrefix}
 use Rattle.sct_delta.specs.Entries.{Placed}
 use Rattle.sct_site.proofs.Prefixes.{prefix_self, prefix_shorter}

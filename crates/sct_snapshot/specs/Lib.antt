@@ -1,0 +1,3 @@
+-- Snapshots of a site.
+pub mod Blocks
+pub mod Moments
