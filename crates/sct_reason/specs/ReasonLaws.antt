@@ -50,7 +50,21 @@ not_found p (y ∷ ys) e =
     let parts : (p y ≡ false) × (list_any p ys ≡ false) = or_parts _ _ e in
     ap (λ (passes : Bool). if passes then Some y else find p ys) parts.0 ∙ not_found p ys parts.1
 
+-- whether one is found is whether any passes the test
+found_or_later : {X : Type 0} (y : X) (rest : Option X) (passes any : Bool) → is_some rest ≡ any
+    → is_some (if passes then Some y else rest) ≡ (passes || any)
+found_or_later y rest true any later = refl
+found_or_later y rest false any later = later
+
+found_where_any : {X : Type 0} (p : X → Bool) (xs : List X) → is_some (find p xs) ≡ list_any p xs
+found_where_any p [] = refl
+found_where_any p (y ∷ ys) = found_or_later y (find p ys) (p y) (list_any p ys) (found_where_any p ys)
+
 -- ---- listed codes
+
+pub found_is_listed : (s : List ℕ) → is_some (listed_reason s) ≡ is_listed s
+unfolding listed_reason is_listed
+found_is_listed s = found_where_any (λ (q : Reason). is_text s (reason_text q)) listed
 
 listed_has_text : (s : List ℕ) (r : Reason) → listed_reason s ≡ Some r → reason_text r ≡ s
 unfolding listed_reason

@@ -1,5 +1,8 @@
 //! Reasons, and the table of their codes.
-ghost use Rattle.std.specs.Prelude.{◌≡◌};
+ghost use Rattle.std.specs.Prelude.{◌≡◌, find};
+ghost use Rattle.std.specs.Option.{option_copied};
+ghost use Rattle.sct_element.specs.Text.{is_text};
+ghost use Rattle.sct_reason.specs.Codes.{reason_text};
 ghost use Rattle.sct_reason.specs.Listed.{is_listed};
 ghost use Rattle.sct_reason.specs.Reasons.{listed_reason};
 
@@ -159,20 +162,14 @@ macro_rules! copy_of {
     };
 }
 
-macro_rules! listed_reason_of {
-    ([$text:expr] $($name:ident $code:literal,)*) => {
-        match $text {
-            $($code => Some(Reason::$name),)*
-            _ => None,
-        }
+macro_rules! all_of {
+    ([] $($name:ident $code:literal,)*) => {
+        [$(Reason::$name),*]
     };
 }
 
-macro_rules! is_code_of {
-    ([$text:expr] $($name:ident $code:literal,)*) => {
-        matches!($text, $($code)|*)
-    };
-}
+/// The listed reasons, in the order of their codes.
+const LISTED: [Reason; 40] = walk_codes!(all_of[]);
 
 impl Reason {
     ghost use Rattle.sct_reason.specs.Codes.{reason_text};
@@ -205,18 +202,28 @@ impl Reason {
     }
 }
 
+/// The first of these reasons that has this code.
+fn first_of_text<'a>(reasons: &'a [Reason], text: &str) -> Option<&'a Reason>
+    ensures { option_copied result ≡ find (λ reason. is_text text.now (reason_text reason)) reasons.now }
+{
+    reasons.iter().find(|reason| text == reason.text())
+}
+
 /// The listed reason that has this code, or none.
 #[tactic(auto, unfolding(crate::specs::Reasons::listed_reason))]
 fn listed_reason(text: &str) -> Option<Reason>
     ensures { result ≡ listed_reason text.now }
 {
-    walk_codes!(listed_reason_of[text])
+    match first_of_text(&LISTED, text) {
+        Some(reason) => Some(reason.copy()),
+        None => None,
+    }
 }
 
 /// Whether a text is a listed code.
-#[tactic(auto, unfolding(crate::specs::Listed::is_listed))]
+#[tactic(auto, using(crate::specs::ReasonLaws::found_is_listed))]
 pub(crate) fn is_listed(text: &str) -> bool
     ensures { result ≡ is_listed text.now }
 {
-    walk_codes!(is_code_of[text])
+    listed_reason(text).is_some()
 }
