@@ -22,7 +22,7 @@ use Rattle.sct_view.specs.StatusText.{lines_on}
 use Rattle.sct_view.specs.Touched.{fresh_of, is_newly_contradicted, touched_by, touched_in}
 use Rattle.sct_view.proofs.TouchedLemmas.{untouched_stay}
 use Rattle.sct_view.proofs.TouchesAddUpLemmas.{touches_add_up}
-use Rattle.sct_keep.proofs.TransferLemmas.{lines_alike}
+use Rattle.sct_parts.proofs.TransferLemmas.{lines_alike}
 use Rattle.sct_embed.specs.Laws.{OtherTransfersKeepTheirLines}
 use Rattle.sct_embed.specs.Questions.{changes_since, changes_text_of, transfer_line}
 use Rattle.sct_embed.specs.Showing.{IsLater, IsWatched, text_of_changes, watched_by}

@@ -2,13 +2,13 @@
 use Rattle.std.proofs.Common.{◌≡◌, ℕ, ◌+◌, Bool, List, Option, Result, Ok, Err, refl, ap}
 use Rattle.std.specs.Result.{IsErrAnd}
 use Rattle.sct_journal.specs.declared.error.JournalError.{JournalError}
-use Rattle.sct_engine.specs.Fault.{failed_reads}
+use Rattle.sct_commands.specs.Fault.{failed_reads}
 use Rattle.sct_engine.specs.Run.{IsDoneAsAsked, IsPerformed}
-use Rattle.sct_engine.specs.Stream.{Streams}
-use Rattle.sct_engine.specs.Tasks.{EndsFilesOf, IsTaskOf, Task}
-use Rattle.sct_engine.specs.declared.ending.Ending.{Ending}
-use Rattle.sct_engine.specs.declared.fault.ProgramFault.{ProgramFault}
-use Rattle.sct_engine.specs.declared.request.Request.{Request}
+use Rattle.sct_commands.specs.Stream.{Streams}
+use Rattle.sct_commands.specs.Tasks.{EndsFilesOf, IsTaskOf, Task}
+use Rattle.sct_commands.specs.declared.ending.Ending.{Ending}
+use Rattle.sct_commands.specs.declared.fault.ProgramFault.{ProgramFault}
+use Rattle.sct_commands.specs.declared.request.Request.{Request}
 
 -- its files were read, and the task is performed
 pub as_task : {D : Type 0} (seen : D → List ℕ) (may_leave : D → List ℕ → Type 0) (is_clean : D → Bool) (faults : D → ℕ) (holds : List ℕ → List ℕ) (fails : List ℕ → JournalError → Type 0) (left left_now : Option D)

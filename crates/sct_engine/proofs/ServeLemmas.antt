@@ -2,9 +2,9 @@
 use Rattle.std.proofs.Common.{◌≡◌, ℕ, Bool, List, Option, Result, subst}
 use Rattle.sct_streams.specs.Stream.{Input, Output}
 use Rattle.sct_engine.specs.Serves.{Lived}
-use Rattle.sct_engine.specs.declared.ending.Ending.{Ending}
-use Rattle.sct_engine.specs.declared.fault.ProgramFault.{ProgramFault}
-use Rattle.sct_engine.specs.declared.places.ServeCommand.{ServeCommand}
+use Rattle.sct_commands.specs.declared.ending.Ending.{Ending}
+use Rattle.sct_commands.specs.declared.fault.ProgramFault.{ProgramFault}
+use Rattle.sct_commands.specs.declared.places.ServeCommand.{ServeCommand}
 
 -- its file is one of these bytes
 pub lived_on : {D : Type 0} (seen : D → List ℕ) (may_leave : D → List ℕ → Type 0) (is_clean : D → Bool) (faults : D → ℕ) (held file : List ℕ) (command : ServeCommand)

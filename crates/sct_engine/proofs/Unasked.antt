@@ -2,10 +2,10 @@
 use Rattle.std.proofs.Common.{◌≡◌, ℕ, Bool, List, Option, Result, Ok, Err, refl, ap, sym, subst}
 use Rattle.std.specs.Result.{IsErrAnd}
 use Rattle.sct_journal.specs.declared.error.JournalError.{JournalError}
-use Rattle.sct_engine.specs.declared.ending.Ending.{Ending}
-use Rattle.sct_engine.specs.declared.fault.ProgramFault.{ProgramFault}
+use Rattle.sct_commands.specs.declared.ending.Ending.{Ending}
+use Rattle.sct_commands.specs.declared.fault.ProgramFault.{ProgramFault}
 use Rattle.sct_engine.specs.Run.{IsAnsweredTo, IsAskedBy}
-use Rattle.sct_engine.specs.Stream.{Streams}
+use Rattle.sct_commands.specs.Stream.{Streams}
 
 -- it ends with the fault of the words, and leaves the streams as they were
 pub unasked : {D : Type 0} (seen : D → List ℕ) (may_leave : D → List ℕ → Type 0) (is_clean : D → Bool) (faults : D → ℕ) (holds : List ℕ → List ℕ) (fails : List ℕ → JournalError → Type 0) (left : Option D) (gives : List ℕ → Option (List ℕ)) (failed : ℕ) (told : Result (List (List ℕ)) ProgramFault) (f : ProgramFault) (before : Streams) (ended : Result Ending ProgramFault)

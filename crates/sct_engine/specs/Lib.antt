@@ -1,15 +1,4 @@
 -- The definitions that contracts cite.
-pub mod Again
-pub mod CommandLine
-pub mod Ending
-pub mod Engine
-pub mod Exchanging
-pub mod Fault
-pub mod Mistakes
-pub mod Places
-pub mod Request
+pub mod Faults
 pub mod Run
-pub mod Runs
 pub mod Serves
-pub mod Stream
-pub mod Tasks

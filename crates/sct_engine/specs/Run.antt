@@ -2,20 +2,20 @@
 use Rattle.std.specs.Prelude.{ℕ, ◌≡◌, ◌≢◌, ◌+◌, ◌≤◌, Bool, false, List, length, map, Option, Some, Result, Ok, Err, IfOk, IfErr, IfSome, OnOk, Vec, String, string_bytes}
 use Rattle.std.specs.declared.alloc.Global.{Global}
 use Rattle.sct_journal.specs.declared.error.JournalError.{JournalError}
-use Rattle.sct_engine.specs.declared.ending.Ending.{Ending}
-use Rattle.sct_engine.specs.declared.fault.ProgramFault.{ProgramFault}
-use Rattle.sct_engine.specs.declared.fault.ProgramFault.TheVariants as fault
-use Rattle.sct_engine.specs.declared.request.Request.{Request}
-use Rattle.sct_engine.specs.CommandLine.{AreAsking}
-use Rattle.sct_engine.specs.Ending.{ending_text_of, exit_status_of}
-use Rattle.sct_engine.specs.Engine.{AreCutOff, EndsWork, IsRefusedInput, StandsOnList}
-use Rattle.sct_engine.specs.Exchanging.{is_possible, EndsExchange}
-use Rattle.sct_engine.specs.Fault.{failed_reads}
+use Rattle.sct_commands.specs.declared.ending.Ending.{Ending}
+use Rattle.sct_commands.specs.declared.fault.ProgramFault.{ProgramFault}
+use Rattle.sct_commands.specs.declared.fault.ProgramFault.TheVariants as fault
+use Rattle.sct_commands.specs.declared.request.Request.{Request}
+use Rattle.sct_commands.specs.CommandLine.{AreAsking}
+use Rattle.sct_commands.specs.Ending.{ending_text_of, exit_status_of}
+use Rattle.sct_commands.specs.Engine.{AreCutOff, EndsWork, IsRefusedInput, StandsOnList}
+use Rattle.sct_commands.specs.Exchanging.{is_possible, EndsExchange}
+use Rattle.sct_commands.specs.Fault.{failed_reads}
 use Rattle.sct_engine.specs.Serves.{IsServed}
-use Rattle.sct_engine.specs.Stream.{Streams}
-use Rattle.sct_engine.specs.Tasks.{bad_row_in, out_text_of, refusals_text_of, EndsSettling, IsEndingOf, IsPrepared, LeavesInput, ReadsInput, TakesInput, Task}
-use Rattle.sct_engine.specs.Tasks as task
-use Rattle.sct_engine.specs.Runs.{are_sites}
+use Rattle.sct_commands.specs.Stream.{Streams}
+use Rattle.sct_commands.specs.Tasks.{bad_row_in, out_text_of, refusals_text_of, EndsSettling, IsEndingOf, IsPrepared, LeavesInput, ReadsInput, TakesInput, Task}
+use Rattle.sct_commands.specs.Tasks as task
+use Rattle.sct_commands.specs.Runs.{are_sites}
 use Rattle.sct_streams.specs.Stream.{HasTakenIfTold, Input, IsWritten, IsWrittenOrCutOff}
 
 -- the words of a command line as texts, or the fault by which they could not be read

@@ -14,13 +14,14 @@ use Rattle.sct_serve.specs.Lives.{output_of, watched_site_kept, LifeLeaves, Life
 use Rattle.sct_serve.specs.Serving.{failed_reads, failed_writes, AreShort, EndsLife, HasReadShort, HasReadTooLong, IsForeignFault}
 use Rattle.sct_serve.specs.declared.fault.ServeFault.{ServeFault}
 use Rattle.sct_serve.specs.declared.fault.ServeFault.TheVariants as serve
-use Rattle.sct_engine.specs.Fault.{fault_of_journal, fault_of_serve}
-use Rattle.sct_engine.specs.Stream.{Streams}
-use Rattle.sct_engine.specs.declared.ending.Ending.{Ending}
-use Rattle.sct_engine.specs.declared.ending.Ending.TheVariants.{Served}
-use Rattle.sct_engine.specs.declared.fault.ProgramFault.{ProgramFault}
-use Rattle.sct_engine.specs.declared.fault.ProgramFault.TheVariants as fault
-use Rattle.sct_engine.specs.declared.places.ServeCommand.{ServeCommand}
+use Rattle.sct_commands.specs.Fault.{fault_of_journal}
+use Rattle.sct_engine.specs.Faults.{fault_of_serve}
+use Rattle.sct_commands.specs.Stream.{Streams}
+use Rattle.sct_commands.specs.declared.ending.Ending.{Ending}
+use Rattle.sct_commands.specs.declared.ending.Ending.TheVariants.{Served}
+use Rattle.sct_commands.specs.declared.fault.ProgramFault.{ProgramFault}
+use Rattle.sct_commands.specs.declared.fault.ProgramFault.TheVariants as fault
+use Rattle.sct_commands.specs.declared.places.ServeCommand.{ServeCommand}
 
 -- ---- faults
 

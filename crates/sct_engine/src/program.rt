@@ -1,19 +1,15 @@
 //! The whole program over streams of any kind: from the words of the command line to the exit status.
 ghost use Rattle.std.specs.Prelude.{◌≡◌, ℕ};
 ghost use Rattle.sct_engine.specs.Run.{words_told, IsAnswered, IsAnsweredTo, IsDoneAsAsked, IsRun};
-ghost use Rattle.sct_engine.specs.Stream.{streams, Streams};
-ghost use Rattle.sct_engine.specs.Tasks.{exchange, settle, work};
+ghost use Rattle.sct_commands.specs.Stream.{streams, Streams};
+ghost use Rattle.sct_commands.specs.Tasks.{exchange, settle, work};
 ghost use Rattle.sct_streams.specs.Stream.{Input};
 
-use crate::answers::write_answer;
-use crate::ending::{Ending, conclude};
-use crate::exchanging::{Gathered, answer_of_site, gather};
-use crate::fault::ProgramFault;
-use crate::files::{read_file, read_files};
-use crate::jobs::{Job, MOST_BYTES, Release, engine};
-use crate::request::{Request, read_request};
-use crate::runs::answer_of_inputs;
 use crate::serving::serve_site;
+use sct_commands::{
+    Ending, Gathered, Job, MOST_BYTES, ProgramFault, Release, Request, answer_of_inputs, answer_of_site, conclude, engine, gather, read_file,
+    read_files, read_request, write_answer,
+};
 use sct_journal::Disks;
 use sct_streams::{FileReading, Files, Reading, Sink, Source, Writing, write_all};
 use std::alloc::Global;

@@ -2,9 +2,8 @@
 ghost use Rattle.std.specs.Prelude.{◌⊎◌, IfErr};
 ghost use Rattle.sct_engine.specs.Serves.{EndsServing, Lived, NeverBegan};
 
-use crate::ending::Ending;
-use crate::fault::ProgramFault;
-use crate::places::ServeCommand;
+use crate::fault::fault_of_serve;
+use sct_commands::{Ending, ProgramFault, ServeCommand};
 use sct_journal::Disks;
 use sct_serve::serve;
 use sct_streams::{Sink, Source};
@@ -45,7 +44,7 @@ pub fn serve_site<K: Disks, R: Source, O: Sink>(
         }
         Err((fault, disk)) => {
             *left = Some(disk);
-            Err(ProgramFault::from(fault))
+            Err(fault_of_serve(fault))
         }
     }
 }

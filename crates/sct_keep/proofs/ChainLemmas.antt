@@ -18,7 +18,7 @@ use Rattle.sct_message.proofs.SameValues.{identity_is, identity_itself}
 use Rattle.sct_case.proofs.Membership.{any-Decides, any_tie, filtered_in, in_filter, nothing}
 use Rattle.sct_set.specs.Contents.{contents_of}
 use Rattle.sct_view.proofs.SetKeys.{on_is}
-use Rattle.sct_keep.proofs.Members.{among}
+use Rattle.sct_parts.proofs.Members.{among}
 use Rattle.sct_case.proofs.Stays.{held_from, in_items}
 use Rattle.sct_keep.specs.Done.{is_done}
 use Rattle.sct_keep.specs.Keep.{AreTied, HasAllOpen, IsChain, IsKept, IsOpen, is_open_in, is_tied, is_tied_to, kept_of, others_of, with_tied}

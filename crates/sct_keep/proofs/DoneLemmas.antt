@@ -20,11 +20,11 @@ use Rattle.sct_set.proofs.LawLemmas.{commutative}
 use Rattle.sct_view.specs.Answers.{recall_of, recalls_on, status_of}
 use Rattle.sct_view.proofs.SetKeys.{on_is}
 use Rattle.sct_view.specs.Touched.{IsToldAlike}
-use Rattle.sct_keep.specs.Parts.{ShareNothing}
-use Rattle.sct_keep.proofs.ApartLemmas.{of_one, swapped}
-use Rattle.sct_keep.proofs.Members.{among, held_key, of_either, of_first}
+use Rattle.sct_parts.specs.Parts.{ShareNothing}
+use Rattle.sct_parts.proofs.ApartLemmas.{of_one, swapped}
+use Rattle.sct_parts.proofs.Members.{among, held_key, of_either, of_first}
 use Rattle.sct_case.proofs.Stays.{held_from, in_items}
-use Rattle.sct_keep.proofs.TransferLemmas.{of_first_part}
+use Rattle.sct_parts.proofs.TransferLemmas.{of_first_part}
 use Rattle.sct_keep.specs.Done.{are_before, is_answered, is_answered_in, is_before, is_done, is_final, is_settled}
 
 -- ---- the recalls of a transfer, each with its status

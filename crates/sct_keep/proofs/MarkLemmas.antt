@@ -22,7 +22,7 @@ use Rattle.sct_case.proofs.Membership.{any_tie, here, nothing, only}
 use Rattle.sct_set.specs.Contents.{contents_of}
 use Rattle.sct_view.specs.Kept.{same_key}
 use Rattle.sct_view.proofs.SlotLemmas.{one_read}
-use Rattle.sct_keep.proofs.Members.{held_key}
+use Rattle.sct_parts.proofs.Members.{held_key}
 use Rattle.sct_keep.specs.Done.{is_before, is_settled}
 use Rattle.sct_keep.specs.Marks.{AreMarkedMore, AreMarks, IsLate, IsOpenAt, IsUnsettled, is_marked}
 use Rattle.sct_keep.specs.Ties.{AreFirsts, AreGroups, HasFirst}

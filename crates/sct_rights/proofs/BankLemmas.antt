@@ -27,7 +27,7 @@ use Rattle.sct_view.proofs.SetKeys.{key-is_on, on_is}
 use Rattle.sct_view.proofs.SlotLemmas.{one_read}
 use Rattle.sct_reconcile.specs.Reports.{is_of_day, keys_reported, transfers_on_day}
 use Rattle.sct_reconcile.specs.declared.rows.ListedRow.{ListedRow}
-use Rattle.sct_keep.proofs.Members.{held_passing, key_held, key_there, same_members}
+use Rattle.sct_parts.proofs.Members.{held_passing, key_held, key_there, same_members}
 use Rattle.sct_rights.specs.ByBanks.{IsFiledByBanks, IsFiledForBanks, is_reported, names_bank}
 use Rattle.sct_rights.proofs.ReportLemmas.{bank_key, is_of, key_bank}
 use Rattle.sct_rights.proofs.TruthLemmas.{instruction_held}

@@ -30,8 +30,8 @@ use Rattle.sct_view.proofs.SetKeys.{key-is_on}
 use Rattle.sct_view.proofs.ToldLemmas.{recalls_kept}
 use Rattle.sct_reconcile.specs.Reports.{amount_in, is_of_day, keys_reported, listed_on, row_from, transfers_on_day}
 use Rattle.sct_reconcile.specs.declared.rows.ListedRow.{ListedRow}
-use Rattle.sct_keep.specs.Parts.{has_key}
-use Rattle.sct_keep.proofs.Members.{key_there, same_members}
+use Rattle.sct_parts.specs.Parts.{has_key}
+use Rattle.sct_parts.proofs.Members.{key_there, same_members}
 use Rattle.sct_rights.specs.Reported.{report_for, row_for}
 use Rattle.sct_rights.specs.Rights.{is_one_of, is_theirs}
 use Rattle.sct_rights.specs.Shown.{bank_line_for, lines_for, messages_for, shown_to, visible}

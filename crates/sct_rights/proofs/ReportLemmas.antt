@@ -27,8 +27,8 @@ use Rattle.sct_rights.specs.Rights.{is_one_of, is_theirs}
 use Rattle.sct_rights.specs.Shown.{visible}
 use Rattle.sct_rights.specs.Reported.{report_for, row_for}
 use Rattle.sct_rights.specs.Laws.{ReportsTellTheTruth}
-use Rattle.sct_keep.proofs.RowLemmas.{row_alike, row_elsewhere}
-use Rattle.sct_keep.proofs.Members.{held_key, key_held, same_members}
+use Rattle.sct_parts.proofs.RowLemmas.{row_alike, row_elsewhere}
+use Rattle.sct_parts.proofs.Members.{held_key, key_held, same_members}
 use Rattle.sct_rights.proofs.TruthLemmas.{not_received, not_sent, seen_foreign, seen_theirs, visible_within}
 use Rattle.sct_rights.proofs.VisibleLemmas.{theirs_visible, told_alike, visible_held}
 

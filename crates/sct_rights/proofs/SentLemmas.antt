@@ -18,7 +18,7 @@ use Rattle.sct_message.proofs.Members.{list_any-found}
 use Rattle.sct_message.proofs.SameValues.{message_is, transfer_is}
 use Rattle.sct_case.proofs.Membership.{any_tie}
 use Rattle.sct_view.proofs.TouchedLemmas.{found_held}
-use Rattle.sct_keep.proofs.Members.{held_passing}
+use Rattle.sct_parts.proofs.Members.{held_passing}
 use Rattle.sct_rights.specs.Rights.{as_beneficiary, as_originators, by_kind, for_originators, has_credit_to, has_instruction, is_credit_to, is_foreign, is_one_of, verdict}
 use Rattle.sct_rights.specs.Sent.{Sending, held_after, held_after_all, is_allowed, is_granted}
 use Rattle.sct_rights.specs.Laws.{BanksSendInTheirName, IsInTheirName, IsOfBeneficiary, IsOfTheirRole, NothingElseHappens, WasAllowed}

@@ -32,10 +32,10 @@ use Rattle.sct_view.proofs.TouchedLemmas.{found_held}
 use Rattle.sct_rights.specs.Rights.{has_on, is_credit_to, is_one_of, is_theirs}
 use Rattle.sct_rights.specs.Shown.{bank_line_for, lines_for, seen_on, visible}
 use Rattle.sct_rights.specs.Laws.{TheTruthIsTold}
-use Rattle.sct_keep.proofs.TransferLemmas.{lines_alike}
-use Rattle.sct_keep.specs.Parts.{has_key}
-use Rattle.sct_keep.proofs.Members.{from_either}
-use Rattle.sct_keep.proofs.SumsLemmas.{elsewhere, picked}
+use Rattle.sct_parts.proofs.TransferLemmas.{lines_alike}
+use Rattle.sct_parts.specs.Parts.{has_key}
+use Rattle.sct_parts.proofs.Members.{from_either}
+use Rattle.sct_parts.proofs.SumsLemmas.{elsewhere, picked}
 use Rattle.sct_rights.proofs.VisibleLemmas.{told_alike, visible_held}
 
 -- ---- the lines

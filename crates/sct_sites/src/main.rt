@@ -2,7 +2,8 @@
 //! after one run, so its memory is given back only when it ends.
 #![tactic(auto)]
 
-use sct_engine::{Release, Storage, read_words, run_over_std};
+use sct_commands::{Release, read_words};
+use sct_engine::{Storage, run_over_std};
 use sct_journal::HostDisks;
 use sct_streams::HostFiles;
 use sqlite_disk::Wary;

@@ -1,7 +1,7 @@
 -- Each request is done as the task that it is with the bytes of its files.
 use Rattle.std.proofs.Common.{refl, rules}
-use Rattle.sct_engine.specs.Tasks.{exchange, help, mistake, serve, settle, work}
-use Rattle.sct_engine.specs.declared.jobs.Job.TheVariants.{Report}
+use Rattle.sct_commands.specs.Tasks.{exchange, help, mistake, serve, settle, work}
+use Rattle.sct_commands.specs.declared.jobs.Job.TheVariants.{Report}
 use Rattle.sct_engine.proofs.PerformLemmas.{as_task, unread}
 use Rattle.sct_engine.proofs.program.perform.Goals as goal
 

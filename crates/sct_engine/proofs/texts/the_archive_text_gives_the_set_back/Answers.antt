@@ -1,6 +1,0 @@
--- The law of the archive text as an input.
-use Rattle.sct_engine.proofs.AgainLemmas.{archive_gives_back}
-use Rattle.sct_engine.proofs.texts.the_archive_text_gives_the_set_back.Goals as goal
-
-pub returns : goal.returns
-returns c = archive_gives_back

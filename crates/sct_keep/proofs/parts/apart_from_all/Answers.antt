@@ -1,6 +1,0 @@
--- The law of more than two sets.
-use Rattle.sct_keep.proofs.ApartLemmas.{apart_from_all}
-use Rattle.sct_keep.proofs.parts.apart_from_all.Goals as goal
-
-pub returns : goal.returns
-returns c = apart_from_all

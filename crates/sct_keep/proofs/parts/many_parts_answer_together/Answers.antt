@@ -1,6 +1,0 @@
--- The law of many parts.
-use Rattle.sct_keep.proofs.ManyLemmas.{many_parts}
-use Rattle.sct_keep.proofs.parts.many_parts_answer_together.Goals as goal
-
-pub returns : goal.returns
-returns c = many_parts

@@ -1,6 +1,0 @@
--- The law that totals add up.
-use Rattle.sct_keep.proofs.SumsLemmas.{totals_add_up}
-use Rattle.sct_keep.proofs.parts.totals_add_up.Goals as goal
-
-pub returns : goal.returns
-returns c = totals_add_up

@@ -1,6 +1,0 @@
--- The law that the transfers of banks are those of the parts.
-use Rattle.sct_keep.proofs.TransferLemmas.{transfers_of_parts}
-use Rattle.sct_keep.proofs.parts.transfers_of_banks_are_those_of_the_parts.Goals as goal
-
-pub returns : goal.returns
-returns c = transfers_of_parts
