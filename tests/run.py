@@ -18,8 +18,8 @@ part, or all if the library or the page is not made: a line that begins with 'sk
 such packages first. With --no-skips what is skipped has failed.
 
 A line that begins with 'program' says on what a check of the hub, of parts or of the desk ran: on the program, or where
-that is not built on a stand-in of the definitions. These checks never begin a proof. A check that runs for 25 minutes
-is stopped, and has failed. The first line says when the checks begin, and when the first and the last library below
+that is not built on a stand-in of the definitions. No check proves a crate. A check that runs for 25 minutes is
+stopped, and has failed. The first line says when the checks begin, and when the first and the last library below
 crates/ was made. A line before the last one says it again with the end of the checks.
 """
 from __future__ import annotations
@@ -59,6 +59,9 @@ CHECKS = {
         "tried_edits": "looks when the edits were tried that the gate leaves out, and counts all edits",
         "linters": "runs flake8, mypy and shellcheck on the programs and scripts around the program",
         "interface": "compares VERSION, the C header, the Python package and the exports of the library",
+    },
+    "proofs": {
+        "edits": "has the prover refuse the wrong bodies of crates that are dear to prove",
     },
     "golden": {
         "examples": "runs the program on the examples",
@@ -202,7 +205,7 @@ QUICK = ["documents", "examples", "cases", "lists", "readme", "operator_pages", 
 QUICK_ALONE = ["unproved"]
 SECONDS = 1500  # a check that runs for longer is stopped
 LANES = min(4, len(os.sched_getaffinity(0)))  # checks that run side by side
-FIRST = ["parts", "rolls"]  # the longest checks, which begin first
+FIRST = ["edits", "parts", "rolls"]  # the longest checks, which begin first
 SKIPPED = "skipped: "
 SEEDED = ["c_calls", "serve_lives", "serve_hub"]  # checks that make up cases as the property checks do
 VARIABLES = ["SCT_SITES", "SCT_TEST_DRIVER", "SCT_C", "NILUPPANG_LIBRARY"]
@@ -372,7 +375,7 @@ def take_stand_in() -> None:
 
 def left_out(found: dict[str, Checked]) -> Iterator[str]:
     """What --quick leaves out: what only the gate has, and what was skipped."""
-    yield "all proofs and edits (`rt ci`)"
+    yield "all proofs and most edits (`rt ci`)"
     yield f"checks: {', '.join(name for name, _, _ in chosen_by([]) if name not in found)}"
     yield from (f"{name}: {line}" for name, one in found.items() for line in one.lines if line.startswith(SKIPPED))
 

@@ -1,11 +1,10 @@
-"""edit_files.py: the wrong bodies that the gate leaves out, the functions in which they are, and the list of when each
-was tried.
+"""edit_files.py: the wrong bodies that `rt ci` leaves out, the functions in which they are, and the lists of them.
 
-They are the files crates/NAME/must-fail/*.md. The list is crates/edits-tried.txt. A row has the crate, the edit, the
-day on which it was tried, the toolchain, what was not proved then (the function of the edit, a caller of it, or another
-part of the crate), and a sum of what that rests on: the edit and all files of src/ and specs/ of its crate. In place of
-what was not proved, 'later' says that the edit was not tried since its crate changed. The sum is then that of the last
-try.
+They are the files crates/NAME/must-fail/*.md. The check `edits` of the gate tries those of crates/edits-in-gate.txt, by
+crate and name. The list of the others is crates/edits-tried.txt. A row has the crate, the edit, the day on which it was
+tried, the toolchain, what was not proved then (the function of the edit, a caller of it, or another part of the crate),
+and a sum of what that rests on: the edit and all files of src/ and specs/ of its crate. In place of what was not
+proved, 'later' says that the edit was not tried since its crate changed. The sum is then that of the last try.
 """
 from __future__ import annotations
 import hashlib
@@ -15,6 +14,7 @@ from typing import Iterator, NamedTuple
 
 TOP = pathlib.Path(__file__).resolve().parents[1]
 LIST = pathlib.Path("crates", "edits-tried.txt")
+IN_GATE = pathlib.Path("crates", "edits-in-gate.txt")
 LATER, NEVER = "later", "never"
 TITLE = """\
 # The edits that the gate leaves out, as tools/edits.py writes them: crate, edit, day of the last try, toolchain, what was not proved then,
@@ -76,9 +76,15 @@ def pairs_of(text: str) -> Iterator[Pair]:
 
 
 def of_crate(top: pathlib.Path, crate: str) -> list[Edit]:
-    """The edits of a crate that the gate leaves out."""
+    """The edits of a crate that `rt ci` leaves out."""
     paths = sorted((top / "crates" / crate / "must-fail").glob("*.md"))
     return [Edit(crate, path.stem, list(pairs_of(path.read_text(encoding="utf-8")))) for path in paths]
+
+
+def in_gate(top: pathlib.Path) -> list[tuple[str, str]]:
+    """The edits that the check `edits` tries, each by its crate and its name."""
+    lines = (top / IN_GATE).read_text(encoding="utf-8").splitlines()
+    return [(crate, name) for crate, _, name in (line.partition(" ") for line in lines if not line.startswith("#"))]
 
 
 def crates(top: pathlib.Path) -> list[str]:
@@ -184,7 +190,7 @@ def rows(top: pathlib.Path = TOP) -> list[Row]:
 def write(new: list[Row], top: pathlib.Path = TOP) -> None:
     """Puts rows into the list, each in place of those of its edit, and leaves out those of edits that are gone."""
     kept = {(row.crate, row.edit): row for row in [*rows(top), *new]}
-    left = [kept[key] for key in sorted(kept) if path_of(top, *key).is_file()]
+    left = [kept[key] for key in sorted(kept) if path_of(top, *key).is_file() and key not in in_gate(top)]
     (top / LIST).write_text(TITLE + "".join(" ".join(row) + "\n" for row in left), encoding="utf-8")
 
 

@@ -1,17 +1,19 @@
 #!/usr/bin/env python3
-"""edits.py: has the prover try the wrong bodies that the gate leaves out, and writes down which it refused.
+"""edits.py: has the prover try the wrong bodies that `rt ci` leaves out, and writes down which it refused.
 
-Usage: tools/edits.py [--later] [CRATE..]
+Usage: tools/edits.py [--later | --gate] [CRATE..]
 
-The gate tries the files crates/NAME/must-fail/*.edit. The files *.md beside them have the same form. This script tries
+`rt ci` tries the files crates/NAME/must-fail/*.edit. The files *.md beside them have the same form. This script tries
 those of some crates, or without a name those that were not tried since their crate changed, and writes
-crates/edits-tried.txt (edit_files.py).
+crates/edits-tried.txt (edit_files.py). With --gate it tries those of crates/edits-in-gate.txt, over libraries that
+`rt ci` has just proved, and writes nothing: the check `edits` of the gate does so.
 
-It works on a copy of the crates, over the libraries that `rt ci` kept. What is missing is proved first. `rt check
---only` must prove the functions as they are, and then refuse each with its edit. Edits in functions that do not call
-each other are tried at once, since its own body and the contracts of what it calls decide about a function. If the
-function of an edit is proved all the same, its callers in the crate are tried, and then the crate (`rt must-fail`). An
-edit that is still proved or is not compiled has failed.
+It works on a copy of the crates, over the libraries that this clone has or that `rt ci` kept. What is missing is proved
+first, but not with --gate. `rt check --only` must prove the functions as they are, which `rt ci` has done before
+--gate, and then refuse each with its edit. Edits in functions that do not call each other are tried at once, since its
+own body and the contracts of what it calls decide about a function. If the function of an edit is proved all the same,
+its callers in the crate are tried, and then the crate (`rt must-fail`). An edit that is still proved or is not compiled
+has failed.
 
 With --later nothing is tried, and the list says so. The last line is 'N passed, M failed'. The exit status is 0 if none
 failed.
@@ -38,11 +40,13 @@ UNNAMED = set("""add add_assign as_ref borrow call call_mut call_once clone cmp 
 NO_FUNCTION = re.compile(r"(?:has no function|several functions are named) `([^`]+)`")
 
 
-# a copy of the crates in which edits of one crate are tried, and the functions of that crate
+# a copy of the crates in which edits of one crate are tried, the functions of that crate, and whether they were proved
+# as they are
 class Bench(NamedTuple):
     top: pathlib.Path
     crate: str
     functions: list[Function]
+    is_proved: bool
 
     def folder(self) -> pathlib.Path:
         return self.top / "crates" / self.crate
@@ -88,6 +92,8 @@ def checked(bench: Bench, tries: list[Try]) -> tuple[int, str]:
 def proved(bench: Bench, tries: list[Try]) -> list[Try]:
     """The tries, of which all functions are proved as they are. What their proofs cite is kept for the next checks. A
     function that the prover does not know by its path, or not alone, is left out, and a try that has no other."""
+    if bench.is_proved:
+        return tries
     status, said = checked(bench, tries)
     unknown = NO_FUNCTION.search(said)
     if unknown:
@@ -184,40 +190,45 @@ def refused_above(bench: Bench, edits: list[Edit]) -> Iterator[tuple[Edit, str]]
 # ---- one crate
 
 def all_but_libraries(folder: str, names: list[str]) -> list[str]:
-    """What a copy of the crates leaves out: of what was made, all but the libraries."""
+    """What a copy of a crate leaves out: of what was made, all but its library."""
     return [name for name in names if name != "rlib"] if pathlib.Path(folder).name == "out" else []
 
 
 @contextlib.contextmanager
-def bench_of(crate: str) -> Iterator[Bench]:
-    """A copy of the crates, with the libraries below one that this clone has or `rt ci` kept."""
+def bench_of(crate: str, is_proved: bool) -> Iterator[Bench]:
+    """A copy of a crate and of those below it, with the libraries that this clone has or `rt ci` kept."""
     with tempfile.TemporaryDirectory(prefix="edits-") as folder:
-        top = pathlib.Path(folder)
-        shutil.copytree(TOP / "crates", top / "crates", ignore=all_but_libraries)
-        for name in ("crates.txt", "HANDLES"):
-            shutil.copy(TOP / name, top / name)
-        kept.prepare(crate, shutil.which("rt") or "rt", top)
-        yield Bench(top, crate, edit_files.functions(top, crate))
+        top, lines = pathlib.Path(folder), kept.lines_of(crate)
+        for name in lines:
+            shutil.copytree(TOP / "crates" / name, top / "crates" / name, ignore=all_but_libraries)
+        (top / "crates.txt").write_text("".join(f"{line}\n" for line in lines.values()), encoding="utf-8")
+        shutil.copy(TOP / "HANDLES", top / "HANDLES")
+        is_known = kept.is_proved(top / "crates" / crate)
+        are_there = kept.prepare(crate, shutil.which("rt") or "rt", top)
+        if is_proved and not (is_known and are_there):
+            raise Wrong("it and the crates below are not all proved in this clone: run `rt ci` before")
+        yield Bench(top, crate, edit_files.functions(top, crate), is_proved)
 
 
 def note(top: pathlib.Path, edit: Edit, by: str) -> None:
     """Writes that an edit was tried today, as its files in the copy are."""
     day, toolchain = datetime.date.today().isoformat(), said_of(["rt", "version"], top)[1].split()[0]
     edit_files.write([Row(edit.crate, edit.name, day, toolchain, by, edit_files.sum_of(top, edit.crate, edit.name))])
-    print(f"{edit.crate}/{edit.name}: refused ({by})", flush=True)
 
 
-def tried(crate: str, names: list[str]) -> list[str]:
+def tried(crate: str, names: list[str], is_gate: bool) -> list[str]:
     """Tries edits of a crate, and returns the names of those that were not refused."""
-    with bench_of(crate) as bench:
-        left = {edit.name: edit for edit in edit_files.of_crate(bench.top, crate) if edit.name in names}
-        try:
+    left = {edit.name: edit for edit in edit_files.of_crate(TOP, crate) if edit.name in names}
+    try:
+        with bench_of(crate, is_gate) as bench:
             for how in refused_at_functions, refused_above:
                 for edit, by in how(bench, [*left.values()]):
-                    note(bench.top, edit, by)
+                    if not is_gate:
+                        note(bench.top, edit, by)
+                    print(f"{edit.crate}/{edit.name}: refused ({by})", flush=True)
                     del left[edit.name]
-        except Wrong as why:
-            print(f"{crate}: {why}", flush=True)
+    except Wrong as why:
+        print(f"{crate}: {why}", flush=True)
     return [*left]
 
 
@@ -229,16 +240,23 @@ def later(crate: str, names: list[str]) -> list[str]:
     return []
 
 
+def of_list(crate: str, is_gate: bool) -> list[str]:
+    """The edits of a crate that the check `edits` tries, or the others."""
+    in_gate = [name for of, name in edit_files.in_gate(TOP) if of == crate]
+    return [edit.name for edit in edit_files.of_crate(TOP, crate) if (edit.name in in_gate) == is_gate]
+
+
 def left_in(crate: str) -> list[str]:
     """The edits of a crate that were not tried since it changed."""
     done = {row.edit for row in edit_files.rows() if row.crate == crate and edit_files.is_of_today(row)}
-    return [edit.name for edit in edit_files.of_crate(TOP, crate) if edit.name not in done]
+    return [name for name in of_list(crate, False) if name not in done]
 
 
 def main() -> None:
     parser = argparse.ArgumentParser(description=__doc__, formatter_class=argparse.RawDescriptionHelpFormatter)
-    parser.add_argument("--later", action="store_true",
-                        help="try nothing, and write that the edits are to be tried later")
+    how = parser.add_mutually_exclusive_group()
+    how.add_argument("--later", action="store_true", help="try nothing, and write that the edits are to be tried later")
+    how.add_argument("--gate", action="store_true", help="try those of the gate, over what `rt ci` proved")
     parser.add_argument("crates", nargs="*", metavar="CRATE")
     asked = parser.parse_args()
     known = edit_files.crates(TOP)
@@ -247,9 +265,8 @@ def main() -> None:
         sys.exit(f"edits: no such edits has {', '.join(unknown)}; {', '.join(known)} have some")
     passed = failed = 0
     for crate in asked.crates or known:
-        names = [edit.name
-                 for edit in edit_files.of_crate(TOP, crate)] if asked.crates and not asked.later else left_in(crate)
-        missed = (later if asked.later else tried)(crate, names) if names else []
+        names = of_list(crate, asked.gate) if asked.gate or asked.crates and not asked.later else left_in(crate)
+        missed = (later(crate, names) if asked.later else tried(crate, names, asked.gate)) if names else []
         for name in missed:
             print(f"{crate}/{name}: NOT REFUSED", flush=True)
         passed, failed = passed + len(names) - len(missed), failed + len(missed)

@@ -95,10 +95,17 @@ def take(module: types.ModuleType, kept: Any, crate: Any) -> bool:
     return True
 
 
-def newest(crate: Any) -> Any:
-    """When the newest file was written that a library is made of."""
+def newest(folder: str | pathlib.Path) -> float:
+    """When the newest file was written that the library of a crate is made of."""
     return max(path.stat().st_mtime for part in ("src", "specs", "proofs")
-               for path in pathlib.Path(crate.folder, part).rglob("*") if path.is_file())
+               for path in pathlib.Path(folder, part).rglob("*") if path.is_file())
+
+
+def is_proved(folder: pathlib.Path) -> bool:
+    """Whether the library of a crate, which is made only when the crate is proved, is newer than all that it is made
+    of."""
+    library = folder / "out" / "rlib" / f"{folder.name}.rlib"
+    return library.is_dir() and library.stat().st_mtime > newest(folder)
 
 
 def give_keys(module: Any, name: Any, top: pathlib.Path) -> Any:
@@ -116,7 +123,7 @@ def give_keys(module: Any, name: Any, top: pathlib.Path) -> Any:
     for crate in below:
         stamp = pathlib.Path(crate.folder, "out", "rlib", "stamp")
         if os.path.isdir(crate.rlib) and not stamp.exists() and os.path.getmtime(crate.rlib) > max(
-                map(newest, [crate, *crate.below()])):
+                newest(one.folder) for one in [crate, *crate.below()]):
             stamp.write_text(crate.stamp(), encoding="utf-8")
     return all(crate.is_built() for crate in below)
 

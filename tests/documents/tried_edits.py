@@ -1,7 +1,7 @@
 """tried_edits.py: the list of when the other edits were tried than those of the gate is of today's files, and pages
 count all edits.
 
-Each edit has one row, and each row an edit. The sum of a row is that of the edit and of src/ and specs/ of its crate as
+Each edit has one row, and each row an edit, unless it is in the list of those that the check `edits` tries. The sum of a row is that of the edit and of src/ and specs/ of its crate as
 they are, unless the row says that the edit is to be tried later. A line says how many are. tools/edits.py writes the
 list. What it reads of a made-up crate is compared with what is there: the functions by which it tries edits, what they
 call, and what a sum rests on.
@@ -89,8 +89,14 @@ def row_faults() -> list[str]:
     """What is wrong with the rows, one by one."""
     rows = edit_files.rows()
     edits = {(edit.crate, edit.name) for crate in edit_files.crates(TOP) for edit in edit_files.of_crate(TOP, crate)}
+    in_gate = edit_files.in_gate(TOP)
+    faults = [f"{crate}/{edit} is no edit for the gate to try" for crate, edit in sorted(set(in_gate) - edits)]
+    faults += [f"{crate}/{edit} is twice in the list of the gate" for crate, edit in sorted(
+        key for key, count in collections.Counter(in_gate).items() if count > 1)]
+    edits -= set(in_gate)
     many = collections.Counter((row.crate, row.edit) for row in rows)
-    faults = [f"{crate}/{edit} has {many[crate, edit]} rows" for crate, edit in sorted(edits) if many[crate, edit] != 1]
+    faults += [f"{crate}/{edit} has {many[crate, edit]} rows" for crate, edit in sorted(edits)
+               if many[crate, edit] != 1]
     faults += [f"{crate}/{edit} is no edit that the gate leaves out" for crate, edit in sorted(set(many) - edits)]
     old = [row for row in rows if (row.crate, row.edit) in edits and row.by != edit_files.LATER
            and not edit_files.is_of_today(row)]
@@ -101,12 +107,13 @@ def row_faults() -> list[str]:
 
 def is_counted(page: str, pattern: str) -> bool:
     """Whether a page counts the edits that the gate tries, and all edits, as they are."""
-    tried, left = (len([*CRATES.glob(f"*/must-fail/*.{ending}")]) for ending in ("edit", "md"))
+    by_rt, left = (len([*CRATES.glob(f"*/must-fail/*.{ending}")]) for ending in ("edit", "md"))
+    tried = by_rt + len(edit_files.in_gate(TOP))
     found = re.search(pattern, " ".join((TOP / page).read_text(encoding="utf-8").split()))
     right = found is not None and [int(number) for number in found.groups()] == [tried,
-                                                                                 tried + left][:len(found.groups())]
+                                                                                 by_rt + left][:len(found.groups())]
     return reported(f"the edits that {page} counts", right,
-                    f"  {tried} are tried by the gate, {tried + left} are there")
+                    f"  {tried} are tried by the gate, {by_rt + left} are there")
 
 
 def main() -> None:
