@@ -2,16 +2,16 @@
 #![tactic(auto)]
 
 ghost use Rattle.std.specs.Prelude.{◌≡◌, None, false, length};
-ghost use Rattle.sct_embed.specs.Codes.{code_name, code_text};
-ghost use Rattle.sct_embed.specs.Outcomes.{refused_accept, refused_as, refused_lines, refused_take};
-ghost use Rattle.sct_embed.specs.Places.{Accepts, Asks, Copies, CopiesPart, CopiesReason, Counts, EndsAnswer, Evaluates, IsCalled, IsCopied, MakesSnapshot, Opens, Restores, Takes, TakesAs, TakesLines};
+ghost use Rattle.sct_place.specs.Codes.{code_name, code_text};
+ghost use Rattle.sct_place.specs.Outcomes.{refused_accept, refused_as, refused_lines, refused_take};
+ghost use Rattle.sct_place.specs.Places.{Accepts, Asks, Copies, CopiesPart, CopiesReason, Counts, EndsAnswer, Evaluates, IsCalled, IsCopied, MakesSnapshot, Opens, Restores, Takes, TakesAs, TakesLines};
 ghost use Rattle.sct_embed.specs.declared.question.Question.TheVariants as question;
 ghost use Rattle.sct_version.specs.Numbers.{version_number};
 ghost use Rattle.sct_version.specs.declared.TheConstants.{VERSION};
 
-use sct_embed::{
-    AcceptOutcome, CallOutcome, LinesOutcome, Place, Question, TakeOutcome, copy_code_name,
-    copy_code_text,
+use sct_embed::Question;
+use sct_place::{
+    AcceptOutcome, CallOutcome, LinesOutcome, Place, TakeOutcome, copy_code_name, copy_code_text,
 };
 use sct_version::version_number;
 use std::alloc::Global;
