@@ -7,8 +7,8 @@ ghost use Rattle.sct_streams.specs.Stream.{Input};
 
 use crate::serving::serve_site;
 use sct_commands::{
-    Ending, Gathered, Job, MOST_BYTES, ProgramFault, Release, Request, answer_of_inputs, answer_of_site, conclude, engine, gather, read_file,
-    read_files, read_request, write_answer,
+    Ending, Gathered, Job, MOST_BYTES, ProgramFault, Release, Request, answer_of_inputs,
+    answer_of_site, conclude, engine, gather, read_file, read_files, read_request, write_answer,
 };
 use sct_journal::Disks;
 use sct_streams::{FileReading, Files, Reading, Sink, Source, Writing, write_all};

@@ -8,9 +8,10 @@ ghost use Rattle.sct_json.specs.Keys.{key_text, is_key_among, is_key_of, is_key_
 ghost use Rattle.sct_json.specs.Names.{AscendByBytes};
 
 use sct_message::Kind;
+use std::fmt;
 
 /// A key of the JSON form of a message.
-#[derive(Clone, Copy, Debug, PartialEq, Eq)]
+#[derive(Clone, Copy, PartialEq, Eq)]
 pub enum Key {
     /// The name of the message's kind.
     MsgNmId,
@@ -147,6 +148,12 @@ impl Key {
             Key::CxlStsId => "CxlStsId",
             Key::Conf => "Conf",
         }
+    }
+}
+
+impl fmt::Debug for Key {
+    fn fmt<W: fmt::Write>(&self, f: &mut fmt::Formatter<W>) -> fmt::Result {
+        f.write_str(self.text())
     }
 }
 
