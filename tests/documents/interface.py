@@ -8,7 +8,7 @@ the function of the library with the same name, result and parameters, and a wor
 These functions are the exports of sct_c with the same types, and there is no other export. The classes of C++ and the
 Python package have each call. The results have the same fields in the header, in the crate and in Python, and their
 sizes are those that the header asserts. The numbers, names and meanings of the header's table are those of its
-enumeration, of the crate sct_embed and of tests/embed/model.py, and are numbers of the code. What concerns sct_c is
+enumeration, of the crate sct_place and of tests/embed/model.py, and are numbers of the code. What concerns sct_c is
 compared if crates.txt names it.
 """
 import collections
@@ -194,9 +194,9 @@ def crate_fields(name):
 
 
 def crate_table():
-    """The texts that the crate sct_embed has for each number: its name and its meaning."""
+    """The texts that the crate sct_place has for each number: its name and its meaning."""
     found = collections.defaultdict(tuple)
-    source = (CRATES / "sct_embed" / "src" / "codes.rt").read_text(encoding="utf-8")
+    source = (CRATES / "sct_place" / "src" / "codes.rt").read_text(encoding="utf-8")
     for number, text in re.findall(r'\b(\d+)\s*=>\s*\{?\s*"((?:[^"\\]|\\.)*)"', source):
         found[int(number)] += (text,)
     return dict(found)
@@ -209,7 +209,7 @@ def body_of(source, name):
 
 
 def crate_checks(version):
-    """Compares sct_c and sct_embed with the header."""
+    """Compares sct_c and sct_place with the header."""
     source, versions = ((CRATES / name / "src" / "lib.rt").read_text(encoding="utf-8")
                         for name in ("sct_c", "sct_version"))
     major, minor, patch = map(int, version.split("."))
@@ -223,7 +223,7 @@ def crate_checks(version):
                        f"{ours.get(name)}, {theirs.get(name)}")
     for crate_name, name in RESULTS.items():
         yield reported(f"{name} and {crate_name} have the same fields", structures()[name] == crate_fields(crate_name))
-    yield reported("sct_embed has the numbers, names and meanings of the table", crate_table() == table(),
+    yield reported("sct_place has the numbers, names and meanings of the table", crate_table() == table(),
                    f"{crate_table()}")
     numbers = {(int(number), name) for number, name in codes.numbers_of_code()[0]}
     for number, (name, _) in sorted(table().items()):
