@@ -18,8 +18,8 @@ part, or all if the library or the page is not made: a line that begins with 'sk
 such packages first. With --no-skips what is skipped has failed.
 
 A line that begins with 'program' says on what a check of the hub, of parts or of the desk ran: on the program, or where
-that is not built on a stand-in of the definitions. No check proves a crate. A check that runs for 25 minutes is
-stopped, and has failed. The first line says when the checks begin, and when the first and the last library below
+that is not built on a stand-in of the definitions. No check proves a crate. A check that runs for 25 minutes, or `edits`
+for an hour, is stopped, and has failed. The first line says when the checks begin, and when the first and the last library below
 crates/ was made. A line before the last one says it again with the end of the checks.
 """
 from __future__ import annotations
@@ -204,6 +204,7 @@ QUICK = ["documents", "examples", "cases", "lists", "readme", "operator_pages", 
          "serve_examples", "hub"]
 QUICK_ALONE = ["unproved"]
 SECONDS = 1500  # a check that runs for longer is stopped
+LONGER = {"edits": 3600}  # the seconds of checks that may take longer
 LANES = min(4, len(os.sched_getaffinity(0)))  # checks that run side by side
 FIRST = ["edits", "parts", "rolls"]  # the longest checks, which begin first
 SKIPPED = "skipped: "
@@ -272,17 +273,17 @@ class Checked(NamedTuple):
 
 def ran(module: str, words: list[Any]) -> Checked:
     """What came of a check."""
-    began = time.monotonic()
+    began, seconds = time.monotonic(), LONGER.get(module.rpartition(".")[2], SECONDS)
     paths = {name: os.path.abspath(os.environ[name]) for name in VARIABLES if os.environ.get(name)}
     with subprocess.Popen([sys.executable, "-u", "-m", module, *words], cwd=harness.TOP,
                           env={**os.environ, **paths}, start_new_session=True,
                           stdout=subprocess.PIPE, stderr=subprocess.STDOUT) as process:
         groups.append(process.pid)
         try:
-            text, status = process.communicate(timeout=SECONDS)[0], process.returncode
+            text, status = process.communicate(timeout=seconds)[0], process.returncode
         except subprocess.TimeoutExpired:
             end_all(process.pid)
-            text, status = process.communicate()[0], f"none in {SECONDS} seconds"
+            text, status = process.communicate()[0], f"none in {seconds} seconds"
         finally:
             end_all(process.pid)
             groups.remove(process.pid)

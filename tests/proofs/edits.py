@@ -13,6 +13,7 @@ from tests.harness import CRATES, TOP, reported
 from tools import edit_files, kept
 
 LANES = 2  # crates at once, since other checks run beside
+SECONDS = 3600  # that one crate may take
 
 
 def is_refused(said: str, crate: str, name: str) -> bool:
@@ -22,7 +23,7 @@ def is_refused(said: str, crate: str, name: str) -> bool:
 
 def tried(crate: str) -> str:
     """What tools/edits.py prints for the edits of a crate."""
-    done = harness.run([sys.executable, "-m", "tools.edits", "--gate", crate], cwd=TOP)
+    done = harness.run([sys.executable, "-m", "tools.edits", "--gate", crate], seconds=SECONDS, cwd=TOP)
     return (done.text + done.errors).decode(errors="replace")
 
 
