@@ -18,9 +18,9 @@ part, or all if the library or the page is not made: a line that begins with 'sk
 such packages first. With --no-skips what is skipped has failed.
 
 A line that begins with 'program' says on what a check of the hub, of parts or of the desk ran: on the program, or where
-that is not built on a stand-in of the definitions. No check proves a crate. A check that runs for 25 minutes, or `edits`
-for an hour, is stopped, and has failed. The first line says when the checks begin, and when the first and the last library below
-crates/ was made. A line before the last one says it again with the end of the checks.
+that is not built on a stand-in of the definitions. No check proves a crate. A check that runs for 25 minutes is
+stopped, and has failed; `edits` may take an hour. The first line says when the checks begin, and when the first and the
+last library below crates/ was made. A line before the last one says it again with the end of the checks.
 """
 from __future__ import annotations
 import argparse
