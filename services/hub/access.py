@@ -13,6 +13,7 @@ from typing import Any, NamedTuple
 from . import limits
 from .addresses import EVERYONE, PLAIN_ROLES
 from .config import parsed
+from .faults import BadText, Forbidden
 from .files import Wrong
 
 BIC = re.compile(r"[A-Z0-9]{4}[A-Z]{2}[A-Z0-9]{2}(?:[A-Z0-9]{3})?")
@@ -44,6 +45,7 @@ class Who(NamedTuple):
         return not self.roles.isdisjoint(set(roles) - {"bank"})
 
 
+AS = " as "  # in the name of who posts in the names of some banks alone
 LOCAL = Who("local", frozenset({"peer", "bank", *PLAIN_ROLES}), frozenset(), frozenset())
 NOBODY = Who("nobody", frozenset(), frozenset(), frozenset())
 
@@ -63,6 +65,18 @@ def who_of(name: str, texts: list[str]) -> Who:
     if len(banks) > limits.BANKS_MOST:
         raise Wrong(f"{name} has {len(banks)} banks, and a client sends in the names of {limits.BANKS_MOST} at most")
     return Who(name, frozenset(roles), frozenset(banks), frozenset(peers))
+
+
+def narrowed(who: Who, text: str) -> Who:
+    """Somebody who posts in the names of the banks of a text alone: of some of its own, or as an operator of any. The
+    record and what waits have it by a name of its own."""
+    texts = text.split(",")
+    if len(texts) > limits.BANKS_MOST or not all(map(BIC.fullmatch, texts)):
+        raise BadText(f"as is not a list of 1 to {limits.BANKS_MOST} BICs with commas between them")
+    banks = frozenset(map(bank, texts))
+    if not who.may(("operator",)) and not banks <= who.banks:
+        raise Forbidden(f"this client does not post in the name of {', '.join(sorted(banks - who.banks))}")
+    return Who(f"{who.name}{AS}{','.join(sorted(banks))}", frozenset({"bank"}), banks, frozenset())
 
 
 def sum_of(token: bytes) -> str:
@@ -162,6 +176,12 @@ class Roles:
         return len(holders) == 1 and number in holders.pop().peers
 
     def banks_of(self, name: str, bank: str) -> frozenset[str]:
-        """The banks in whose names somebody of a name sends, who sent for a bank: for that one, without a file."""
-        return frozenset([bank]) if self.is_open else next((who.banks for who in self.all if who.name == name),
-                                                           frozenset())
+        """The banks in whose names somebody of a name sends now, who sent for a bank: for that one, without a file."""
+        name, _, listed = name.partition(AS)
+        some = frozenset(listed.split(",")) if listed else None
+        if self.is_open:
+            return some or frozenset([bank])
+        who = next((who for who in self.all if who.name == name), NOBODY)
+        if some is None:
+            return who.banks
+        return some if who.may(("operator",)) else some & who.banks

@@ -40,6 +40,8 @@ BANK_AND_DESK, DESK = ("bank", "desk"), ("desk",)
 ADDRESSES = [
     Address("GET", "/", "page", "answers", DESK, "The page of the desk"),
     Address("POST", "/messages", "post_messages", "messages", ("bank", "operator"), "Takes messages as JSON lines"),
+    Address("POST", "/stream", "post_stream", "messages", ("bank", "operator"),
+            "Takes messages as JSON lines as they come, and answers each as soon as it lasts"),
     Address("POST", "/iso20022", "post_iso20022", "messages", ("bank", "operator"), "Takes messages as ISO 20022 XML"),
     Address("GET", "/waiting", "waiting", "messages", ("bank", "desk", "operator"),
             "The messages that wait for their instruction at this site", True),

@@ -7,6 +7,7 @@ machine alone.
 """
 from __future__ import annotations
 import argparse
+import collections
 import contextlib
 import email.utils
 import http.client
@@ -19,9 +20,9 @@ import socket
 import ssl
 import time
 import urllib.parse
-from typing import Any, BinaryIO, Callable, Iterator, NamedTuple, TypeVar
+from typing import Any, BinaryIO, Callable, Deque, Iterable, Iterator, NamedTuple, Tuple, TypeVar
 
-MOST_LINES, MOST_BYTES = 1000, 1 << 20  # of a post
+MOST_LINES, MOST_BYTES = 1000, 1 << 20  # of a post, and of a stream that have no outcome yet
 AGAIN = (408, 429, 500, 502, 503, 504, 507)  # statuses after which the same may be sent again, to any site
 HALTED = 409  # the status after which it may be sent to another site
 FIRST_PAUSE, MOST_PAUSE = 0.1, 5.0  # seconds before the same is sent again
@@ -52,9 +53,11 @@ class Failed(Exception):
     """There is no answer that counts, and why, in one line. `status` and `request`, its identification, are those of an
     answer that is an error. Both are None if there is no answer at all."""
 
+    error: dict[str, Any]  # what the answer says of itself: its code, its name, why, and a remedy
+
     def __init__(self, why: str, status: int | None = None, request: str | None = None, seconds: float = 0.0) -> None:
         super().__init__(why)
-        self.status, self.request, self.seconds = status, request, seconds
+        self.status, self.request, self.seconds, self.error = status, request, seconds, {}
 
 
 class Later(Failed):
@@ -83,29 +86,41 @@ def seconds_of(text: str) -> float:
         return 0.0
 
 
-def failure(address: str, what: str, answer: Answer, kind: type = Failed) -> Exception | Elsewhere:
+def failure(address: str, what: str, answer: Answer, kind: type = Failed) -> Failed:
     """A failure of a kind that an answer is, with the identification of its request."""
     request = one_line(answer.headers.get("Niluppang-Request", ""))
     why = f"{address}: {what}" + (f" (request {request})" if request else "")
     return kind(why, answer.status, request or None, seconds_of(answer.headers.get("Retry-After", "")))
 
 
-def said_in(body: bytes) -> str:
-    """What an error says: why, and what to do. A server before a site, and an older site, answer with a text."""
+def error_in(body: bytes) -> dict[str, Any]:
+    """The error that a body is. Nothing of one that is none."""
     try:
         error = json.loads(body)
-        return one_line(f"{error['why']}; {error['remedy']}")
-    except (ValueError, TypeError, KeyError):
-        return one_line(body[:MOST_SAID].decode(errors="replace"))
+    except ValueError:
+        return {}
+    return error if isinstance(error, dict) and {"why", "remedy"} <= set(error) else {}
 
 
-def failure_of(address: str, answer: Answer) -> Exception | Elsewhere:
+def said_in(body: bytes) -> str:
+    """What an error says: why, and what to do. A server before a site, and an older site, answer with a text."""
+    error = error_in(body)
+    return one_line(f"{error['why']}; {error['remedy']}" if error else body[:MOST_SAID].decode(errors="replace"))
+
+
+def kind_of(status: int) -> type:
+    """The kind of failure that a status is."""
+    return Later if status in AGAIN else Elsewhere if status == HALTED else Failed
+
+
+def failure_of(address: str, answer: Answer) -> Failed:
     """The failure that an answer with another status than 200 is."""
     said = said_in(answer.body)
     if 300 <= answer.status < 400:
         said = "the answer sends on to another address, which is not asked"
-    kind = Later if answer.status in AGAIN else Elsewhere if answer.status == HALTED else Failed
-    return failure(address, f"status {answer.status}" + (f": {said}" if said else ""), answer, kind)
+    its = failure(address, f"status {answer.status}" + (f": {said}" if said else ""), answer, kind_of(answer.status))
+    its.error = error_in(answer.body)
+    return its
 
 
 def failure_by(address: str, fault: Exception) -> Failed:
@@ -277,16 +292,81 @@ def outcomes_in(body: bytes) -> list[dict[str, int | str]] | None:
                            for outcome in outcomes) else None
 
 
+def chunk(data: bytes) -> bytes:
+    """Bytes as a part of a body whose length is not known before. Without any it is the last one."""
+    return b"%x\r\n%b\r\n" % (len(data), data)
+
+
+class Ahead:
+    """Lines that are fetched ahead of their outcomes, up to a number. `waiting` are those without one, each with its
+    number among all."""
+
+    def __init__(self, lines: Iterable[bytes | None]) -> None:
+        self.lines, self.is_open, self.number = iter(lines), True, 0
+        self.waiting: Deque[Tuple[int, bytes]] = collections.deque()
+        self.size, self.answered = 0, 0  # bytes that wait, and outcomes of the stream
+
+    def is_over(self) -> bool:
+        return not self.is_open and not self.waiting
+
+    def again(self) -> bytes:
+        """A stream begins, with all lines that have no outcome yet."""
+        self.answered = 0
+        return b"".join(line + b"\n" for _, line in self.waiting)
+
+    def more(self) -> bytes:
+        """The next lines, once half of those ahead have their outcomes."""
+        fetched: list[bytes] = []
+        if not self.is_open or len(self.waiting) > MOST_LINES // 2 or self.size > MOST_BYTES // 2:
+            return b""
+        while len(self.waiting) < MOST_LINES and self.size < MOST_BYTES:
+            try:
+                line = next(self.lines)
+            except StopIteration:
+                self.is_open = False
+                break
+            if line is None:
+                break
+            self.number += 1
+            if line.strip(BLANK):
+                fetched.append(line + b"\n")
+                self.waiting.append((self.number, line))
+                self.size += len(line)
+        return b"".join(fetched)
+
+    def outcome(self, address: str, line: bytes) -> dict[str, Any]:
+        """The outcome that a line of an answer is, with the number of its line among all. Failed if it is an error."""
+        found = outcomes_in(line)
+        self.answered += 1
+        if not found or found[0].get("line") != self.answered:
+            raise failure_in(address, line)
+        number, sent = self.waiting.popleft()
+        self.size -= len(sent)
+        return {**found[0], "line": number}
+
+
+def failure_in(address: str, line: bytes) -> Failed:
+    """The failure that a line of a stream is, which has no outcome."""
+    error = error_in(line)
+    if not isinstance(error.get("status"), int):
+        return Later(f"{address}: the answer lacks the outcome of some line")
+    its = kind_of(error["status"])(f"{address}: status {error['status']}: {said_in(line)}", error["status"], None,
+                                   float(error.get("seconds", 0)))
+    its.error = error
+    return its
+
+
 class Client:
     """Asks sites of a hub, one request after another. Threads do not share it.
 
     `addresses` are those of the sites. A `token` is sent with each request, and a `context` of ssl has the
-    certificates. No site may be silent for longer than `timeout` seconds. In names of headers _ is written for -.
+    certificates. No site may be silent for longer than `timeout` seconds. With `banks` it posts in the names of these
+    alone, as its roles let it. In names of headers _ is written for -.
     ValueError says why an address or a token is refused.
     """
 
     def __init__(self, addresses: list[str], token: str | None = None, context: ssl.SSLContext | None = None,
-                 timeout: float = 60) -> None:
+                 timeout: float = 60, banks: Iterable[str] = ()) -> None:
         self.sites = [Site(address, context) for address in addresses]
         if not self.sites:
             raise ValueError("there is no address of a site")
@@ -298,6 +378,8 @@ class Client:
                     f"{site.address}: a token is not sent over http to another machine, since others could read it: "
                     "use https")
         self.token, self.timeout = token, timeout
+        listed = ",".join(banks)
+        self.names = f"?as={urllib.parse.quote(listed)}" if listed else ""  # behind the paths of posts
         # gets each failure after which a post is sent again
         self.waits: Callable[[Failed], None] = lambda failure: None
         self.place = 0  # of the site that is asked next
@@ -344,7 +426,7 @@ class Client:
         def is_right(outcomes: list[dict[str, int | str]]) -> bool:
             return [outcome.get("line") for outcome in outcomes] == numbers
 
-        return self._acknowledged("/messages", b"\n".join(lines), "application/x-ndjson", is_right, until)
+        return self._acknowledged(f"/messages{self.names}", b"\n".join(lines), "application/x-ndjson", is_right, until)
 
     def posted_xml(self, document: bytes, until: float) -> list[dict[str, int | str]]:
         """The outcomes of the messages of an XML document of ISO 20022, by the rule of `posted`."""
@@ -352,7 +434,76 @@ class Client:
         def is_right(outcomes: list[dict[str, int | str]]) -> bool:
             return all("message" in outcome for outcome in outcomes)
 
-        return self._acknowledged("/iso20022", document, "application/xml", is_right, until)
+        return self._acknowledged(f"/iso20022{self.names}", document, "application/xml", is_right, until)
+
+    def streamed(self, lines: Iterable[bytes | None], seconds: float) -> Iterator[dict[str, Any]]:
+        """The outcomes of lines that have no line feeds, in their order, as soon as each lasts. Blank lines have none.
+        Lines are fetched ahead of their outcomes, up to 1,000 of them. A None among them has the outcomes handed on
+        that are there.
+
+        After a failure the next site is sent all lines again that have no outcome. Failed if a site refuses them for
+        good, or if none has an outcome for these seconds. Then nobody knows which of the rest were taken.
+        """
+        ahead, pause, left = Ahead(lines), FIRST_PAUSE, list(self.sites)
+        until = time.monotonic() + seconds
+        failure: Failed
+        while not ahead.is_over():
+            site = self.sites[self.place]
+            try:
+                for outcome in self._outcomes(site, ahead, until):
+                    until, pause = time.monotonic() + seconds, FIRST_PAUSE
+                    yield outcome
+                continue
+            except Later as fault:
+                failure, site.free_at = fault, time.monotonic() + fault.seconds
+            except Elsewhere as fault:
+                failure = fault
+                left.remove(site)
+            self._go_on(left, pause, until, failure)
+            pause = min(2 * pause, MOST_PAUSE)
+
+    def _outcomes(self, site: Site, ahead: Ahead, until: float) -> Iterator[dict[str, Any]]:
+        """The outcomes of one stream to a site, which ends when there are no more lines, or in peace."""
+        connection = site.fresh()
+        try:
+            with contextlib.suppress(BrokenPipeError, ConnectionResetError, ssl.SSLEOFError):
+                self._begin_stream(site, connection, max(LEAST, min(self.timeout, until - time.monotonic())))
+            answer = connection.getresponse()
+            if answer.status != 200:
+                raise failure_of(site.address, Answer(answer.status, answer.headers, answer.read()))
+            yield from self._exchanged(site, connection, Lines(site.address, answer), ahead)
+        except FAULTS as fault:
+            raise site.failure(fault) from None
+        finally:
+            connection.close()
+
+    def _begin_stream(self, site: Site, connection: http.client.HTTPConnection, seconds: float) -> None:
+        connection.timeout = min(seconds, MOST_CONNECT)
+        connection.connect()
+        if connection.sock is not None:
+            connection.sock.settimeout(seconds)
+        connection.putrequest("POST", f"{site.path}/stream{self.names}")
+        for name, text in self._head({"Content-Type": "application/x-ndjson", "Transfer-Encoding": "chunked"}).items():
+            connection.putheader(name, text)
+        connection.endheaders()
+
+    def _exchanged(self, site: Site, connection: http.client.HTTPConnection, answers: Lines,
+                   ahead: Ahead) -> Iterator[dict[str, Any]]:
+        """Sends lines and hands on their outcomes. What has none of an earlier stream is sent first."""
+        came, data = iter(answers), ahead.again()
+        while True:
+            data += ahead.more()
+            if data:
+                connection.send(chunk(data))
+            data = b""
+            if ahead.waiting:
+                line = next(came, None)
+                if line is None:
+                    return  # the site ended it in peace: what has no outcome is sent again
+                yield ahead.outcome(site.address, line)
+            elif ahead.is_over():
+                connection.send(chunk(b""))
+                return
 
     # ---- what these have in common
 
@@ -427,6 +578,53 @@ class Client:
         self.waits(failure)
         time.sleep(min(moments) - now)
         self.place = self.sites.index(in_turn[moments.index(min(moments))])
+
+
+# ---- what changes
+
+def events_of(lines: Lines) -> Iterator[dict[str, str]]:
+    """The events of a stream, each as its fields. One without fields shows that the stream is alive."""
+    fields = {}
+    for line in lines:
+        name, colon, value = line.decode(errors="replace").rstrip("\r\n").partition(":")
+        if name:
+            fields[name] = value[1:] if value.startswith(" ") else value
+        elif not colon:
+            yield fields
+            fields = {}
+
+
+class Following:
+    """Follows what changes at a site. `last` is the mark of the last event, and `is_alive` says that something came
+    after that."""
+    last: str | None
+
+    def __init__(self, its: Client, last: str | None = None) -> None:
+        self.its, self.last, self.is_alive = its, last, False
+
+    def next(self) -> Iterator[dict[str, str]]:
+        """The events after the last one, until the stream ends."""
+        self.is_alive = False
+        with self.its.stream("/changes", **({"Last_Event_ID": self.last} if self.last else {})) as lines:
+            for event in events_of(lines):
+                self.is_alive, self.last = True, event.get("id", self.last)
+                if event:
+                    yield event
+        raise Later("the stream of changes ended")
+
+    def all(self, seconds: float) -> Iterator[dict[str, str]]:
+        """All events. A stream that ends is opened again, until no site has answered for these seconds."""
+        until, pause = 0.0, FIRST_PAUSE
+        while True:
+            try:
+                yield from self.next()
+            except Later as fault:
+                if self.is_alive:
+                    until, pause = time.monotonic() + seconds, FIRST_PAUSE
+                if time.monotonic() > until:
+                    raise
+                time.sleep(max(pause, fault.seconds))
+                pause = min(2 * pause, MOST_PAUSE)
 
 
 # ---- the words of a command line

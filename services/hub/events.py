@@ -4,7 +4,7 @@ import asyncio
 import collections
 import json
 import secrets
-from typing import Any
+from typing import Any, Callable
 from . import limits
 
 
@@ -17,7 +17,8 @@ class Events:
     last: collections.deque[tuple[int, bytes]]
     queues: set[Queue]
 
-    def __init__(self) -> None:
+    def __init__(self, vector: Callable[[], str] = lambda: "-") -> None:
+        self.vector = vector  # of what the site holds
         self.began = secrets.token_hex(8)  # no two runs of a site have one, however fast they follow
         self.number, self.last, self.size, self.queues = 0, collections.deque(), 0, set()
 
@@ -50,7 +51,8 @@ class Events:
         self.queues.clear()
 
     def text(self, word: str, data: list[dict[str, Any]]) -> bytes:
-        return f"id: {self.began}-{self.number}\nevent: {word}\ndata: {json.dumps(data)}\n\n".encode()
+        return (f"id: {self.began}-{self.number}\nevent: {word}\nvector: {self.vector()}\n"
+                f"data: {json.dumps(data)}\n\n").encode()
 
     def since(self, last: str) -> list[bytes]:
         """The events after the one that a page had last. If they are not all here, it must load again."""

@@ -10,7 +10,7 @@ import json
 from typing import Any, Callable
 from aiohttp import web
 from . import iso, limits, lists
-from .access import Who, bank as whole_bank
+from .access import Who, bank as whole_bank, narrowed
 from .converting import Converters
 from .costs import price
 from .faults import BAD_LIST, NOT_YOURS, BadText, Forbidden, Refused, TooLong, Unable
@@ -59,7 +59,9 @@ class ForBanks:
             self.shares.reads.take(request["who"].name, many)
 
     def asker(self, request: web.Request) -> Asker:
-        return Asker(request["who"], request["address"], request["id"])
+        """Who posts, in the names of all its banks or of those that `as` names."""
+        its, who = request.query.get("as"), request["who"]
+        return Asker(who if its is None else narrowed(who, its), request["address"], request["id"])
 
     async def messages(self, request: web.Request) -> web.StreamResponse:
         """Takes JSON lines, and answers a line for each that is not blank."""
@@ -83,7 +85,8 @@ class ForBanks:
         async with self.front.body(request, self.shares.bodies) as text:
             self.bounded(request["who"], len(text) // limits.XML_LINE_BYTES)
             drafts = await self.converters.drafts(request["who"].name, text)
-            banks = None if request["who"].may(("operator",)) else request["who"].banks
+            who = self.asker(request).who
+            banks = None if who.may(("operator",)) else who.banks
             items = await iso.lines_of(drafts, lambda bank, tx: self.keeper.ask(on_transfer(bank, tx, banks)))
             lines = [item.line for item in items if item.line is not None]
             self.bounded(request["who"], len(lines))

@@ -22,7 +22,8 @@ class ForDesk:
 
     def __init__(self, parts: Parts, front: Front, shares: Shares) -> None:
         self.parts, self.keeper, self.front, self.shares = parts, parts.keeper, front, shares
-        self.finder, self.events, self.texts = Finder(), Events(), Texts(parts.keeper)
+        self.finder, self.texts = Finder(), Texts(parts.keeper)
+        self.events = Events(lambda: parts.keeper.holding.vector)
 
     def round(self, changes: Changes) -> None:
         """After a round of the site: pages are told what changed."""
@@ -110,7 +111,8 @@ class ForDesk:
             return answer
         finally:
             self.events.queues.discard(queue)
-            self.keeper.watch(-1)
+            # who comes back soon has missed nothing
+            asyncio.get_running_loop().call_later(limits.PAGE_BACK_SECONDS, self.keeper.watch, -1)
 
     async def _follow(self, request: web.Request, answer: web.StreamResponse, queue: Queue) -> None:
         while True:

@@ -79,7 +79,7 @@ def noted(counts: collections.Counter[str], outcomes: list[dict[str, Any]],
         print(client.one_line(line), file=sys.stderr)
 
 
-def acknowledged(rest: str, ask: Callable[..., list[dict[str, Any]]], *words: Any) -> list[dict[str, Any]]:
+def acknowledged(rest: str, ask: Callable[..., Any], *words: Any) -> Any:
     """The outcomes of a part of what is posted, or an error that says with what the rest begins."""
     try:
         return ask(*words)
@@ -100,10 +100,24 @@ def post(its: client.Client, args: argparse.Namespace) -> int:
     until = time.monotonic() + args.seconds
     counts: collections.Counter[str] = collections.Counter()
     with opened(args.file) as file:
+        if args.stream:
+            return streamed(its, file, args.seconds)
         for first, lines in client.posts(file):
             outcomes = acknowledged(f"line {first} and those after it", its.posted, lines, until)
             noted(counts, outcomes, lambda outcome: f"line {first + outcome['line'] - 1}")
     return summed(counts)
+
+
+def streamed(its: client.Client, file: BinaryIO, seconds: float) -> int:
+    """Posts the lines of a file on a stream, until no line has an outcome for some seconds."""
+    counts: collections.Counter[str] = collections.Counter()
+    outcomes, number = its.streamed((line.rstrip(b"\n") for line in file), seconds), 0
+    while True:
+        some = acknowledged(f"the lines after line {number}", next, outcomes, None)
+        if some is None:
+            return summed(counts)
+        number = some["line"]
+        noted(counts, [some], lambda outcome: f"line {outcome['line']}")
 
 
 def xml(its: client.Client, args: argparse.Namespace) -> int:
@@ -261,54 +275,9 @@ def asked_for(address: str, args: argparse.Namespace, entry: dict[str, Any]) -> 
     return {"url": address, "digest": digits}
 
 
-def events_of(lines: client.Lines) -> Iterator[dict[str, str]]:
-    """The events of a stream, each as its fields. One without fields shows that the stream is alive."""
-    fields = {}
-    for line in lines:
-        name, colon, value = line.decode(errors="replace").rstrip("\r\n").partition(":")
-        if name:
-            fields[name] = value[1:] if value.startswith(" ") else value
-        elif not colon:
-            yield fields
-            fields = {}
-
-
-class Following:
-    """Follows what changes at a site. `last` is the mark of the last event, and `is_alive` says that something came
-    after that."""
-    last: str | None
-
-    def __init__(self, its: client.Client) -> None:
-        self.its, self.last, self.is_alive = its, None, False
-
-    def next(self) -> Iterator[dict[str, str]]:
-        """The events after the last one, until the stream ends."""
-        self.is_alive = False
-        with self.its.stream("/changes", **({"Last_Event_ID": self.last} if self.last else {})) as lines:
-            for event in events_of(lines):
-                self.is_alive, self.last = True, event.get("id", self.last)
-                if event:
-                    yield event
-        raise client.Later("the stream of changes ended")
-
-    def all(self, seconds: float) -> Iterator[dict[str, str]]:
-        """All events. A stream that ends is opened again, until no site has answered for these seconds."""
-        until, pause = 0.0, client.FIRST_PAUSE
-        while True:
-            try:
-                yield from self.next()
-            except client.Later as fault:
-                if self.is_alive:
-                    until, pause = time.monotonic() + seconds, client.FIRST_PAUSE
-                if time.monotonic() > until:
-                    raise
-                time.sleep(max(pause, fault.seconds))
-                pause = min(2 * pause, client.MOST_PAUSE)
-
-
 def changes(its: client.Client, args: argparse.Namespace) -> int:
-    """Prints each event as a line of JSON."""
-    for number, event in enumerate(Following(its).all(args.seconds), 1):
+    """Prints each event as a line of JSON: those after a mark, or those that come."""
+    for number, event in enumerate(client.Following(its, args.after).all(args.seconds), 1):
         printed(json.dumps({**event, "data": json.loads(event.get("data", "null"))}).encode() + b"\n")
         if number == args.events:
             break
@@ -395,6 +364,12 @@ def options(words: list[str]) -> argparse.Namespace:
                                  help=f"give up after N seconds ({SECONDS})")
         if name == "changes":
             command.add_argument("-n", "--events", metavar="N", type=int, default=0, help="end after N events")
+            command.add_argument("--after", metavar="ID",
+                                 help="go on after the event with this id; the event reset says that some are no "
+                                 "longer there")
+        if name == "post":
+            command.add_argument("--stream", action="store_true",
+                                 help="post on one request without an end, for which each line is answered at once")
     return parser.parse_args(words)
 
 

@@ -44,7 +44,7 @@ QUEUE_MOST_BYTES = {'take': 64 << 20, 'accept': 32 << 20}  # that wait at most: 
 QUEUE_MOST_QUESTIONS = 2000  # that wait at most
 REQUEST_MOST_ENDS = 3  # times that the process may end with a request before the request is given up
 DIGESTS_MOST_KNOWN = 4096  # that are kept, so that the process is not asked for them again
-CHANGES_MOST_PUBLISHED = 200  # transfers of a round whose lines are published; of the others only the names are
+CHANGES_MOST_PUBLISHED = 1000  # transfers of a round whose lines are published; of the others only the names are
 CHANGED_MOST_BYTES = 64 << 10  # of the lines of a changed transfer that are published
 TEXT_MOST_BYTES = 1 << 40  # of a text of the process
 DIGEST_BYTES = 64  # of the digits of a digest
@@ -126,6 +126,13 @@ FINDS_MOST = 2  # the same
 ASKED_MOST = 32  # short questions that the process is asked at the same time, of all clients
 ASKED_MOST_OF_ONE = 8  # of one
 
+# ---- streams of messages
+
+STREAM_MOST_LINES = 10000  # of one that have no outcome yet: then no more are read
+STREAM_MOST_BYTES = 4 << 20  # of them
+STREAM_TAKEN_LINES = 2000  # that are taken at once
+STREAM_QUIET_SECONDS = 300.0  # after which one without a line ends
+
 # ---- banks
 
 BANKS_MOST = 16  # in whose names one client sends
@@ -168,7 +175,8 @@ XML_LOOKED_UP_AT_ONCE = 16  # transfers that are looked up together
 
 PAGES_MOST = 100  # that watch
 PAGE_QUIET_SECONDS = 15  # after which a page that is silent gets an empty line
-EVENTS_MOST = 1000  # that are kept for a page that comes back
+PAGE_BACK_SECONDS = 60.0  # in which changes are still published after a page has gone, so that it misses none
+EVENTS_MOST = 20000  # that are kept for a page that comes back
 EVENTS_MOST_BYTES = 8 << 20  # of them
 EVENT_MOST_BYTES = 1 << 20  # after a longer one a page loads again
 BEHIND_MOST_EVENTS = 200  # that may wait for a slow page

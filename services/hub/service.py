@@ -17,6 +17,7 @@ from .metrics import metric_lines
 from .parts import Parts
 from .paths import parts_of
 from .shares import shares_of
+from .streaming import Streaming
 
 TEXTS = ("totals", "status", "archive", "contradictions")
 
@@ -30,6 +31,7 @@ class Service:
         self.banks = ForBanks(parts, self.front, self.shares)
         self.desk = ForDesk(parts, self.front, self.shares)
         self.peers = ForPeers(parts, self.front, self.shares)
+        self.streaming = Streaming(self.banks)
         self.monitors = ForMonitors(parts, self.front, lambda: metric_lines(self))
         parts.keeper.rounds.on_round = self._round
 
@@ -52,6 +54,7 @@ class Service:
         """What answers each address, by its name in the table."""
         banks, desk, peers, monitors = self.banks, self.desk, self.peers, self.monitors
         return {"page": desk.page, "post_messages": banks.messages, "post_iso20022": banks.iso20022,
+                "post_stream": self.streaming.stream,
                 "waiting": banks.waiting, "transfer": self.transfer, "transfer_messages": self.transfer,
                 "proof": self.transfer, "find": desk.find, "work": desk.work, "bank_totals": banks.bank_totals,
                 "report": banks.report, "changes": desk.changes, "vector": peers.vector, "delta": peers.delta,

@@ -12,6 +12,7 @@ import sqlite3
 import time
 from typing import Callable, Iterable, NamedTuple
 from . import limits
+from .access import AS
 from .chain import Chain, Path, connected, digest_of, opened, row_of, site_faults, transaction, utc
 from .costs import Room
 from .faults import Busy
@@ -90,18 +91,23 @@ def move_waiting(rows: list[Waiting], path: Path, site: int, group: int,
             put_lines(chain, [row._replace(number=None) for row in some], "", None)
 
 
+def client_of(who: str) -> str:
+    """The client that posted as somebody, who may have been in the names of some banks alone."""
+    return who.partition(AS)[0]
+
+
 def check_room(connection: sqlite3.Connection, fresh: list[Waiting], clients: int) -> None:
     """Busy if too much waits with some more lines: of all, of one of several clients, or of one bank."""
     lines, sizes = Room(limits.WAITING_MOST_LINES, lambda: clients), Room(limits.WAITING_MOST_BYTES, lambda: clients)
     of_banks: dict[str, tuple[int, int]] = collections.defaultdict(lambda: (0, 0))
     its = "SELECT who, bank, count(*), total(size) FROM waiting WHERE state = 'WAITING' GROUP BY who, bank"
     for who, bank, many, size in connection.execute(its):
-        lines.used[who] += many
-        sizes.used[who] += int(size)
+        lines.used[client_of(who)] += many
+        sizes.used[client_of(who)] += int(size)
         of_banks[bank] = of_banks[bank][0] + many, of_banks[bank][1] + int(size)
     for row in fresh:
-        lines.take(row.who, 1)
-        sizes.take(row.who, len(row.line))
+        lines.take(client_of(row.who), 1)
+        sizes.take(client_of(row.who), len(row.line))
         of_banks[row.bank] = many, size = of_banks[row.bank][0] + 1, of_banks[row.bank][1] + len(row.line)
         if many > limits.WAITING_MOST_LINES_OF_BANK or size > limits.WAITING_MOST_BYTES_OF_BANK:
             raise Busy(f"too many lines of {row.bank} wait for their instructions")
