@@ -12,12 +12,12 @@ numbers, has failed at least once. At the end follows again what differed in eac
 is 'N passed, M failed' of all checks. The exit status is 0 if none has failed. harness.py has the variables that name
 other programs than those of the gate.
 
---seed, --cases and --long are handed to the property checks (tests/property/cases.py), and to c_calls, serve_lives and
-serve_hub. A check is skipped, and has not passed, if the machine lacks a Debian package that it needs. Some skip a
+--seed, --cases and --long are handed to the property checks (tests/property/cases.py), and to c_calls, serve_lives,
+serve_hub and queue_kills. A check is skipped, and has not passed, if the machine lacks a Debian package that it needs. Some skip a
 part, or all if the library or the page is not made: a line that begins with 'skipped' says so. --install installs all
 such packages first. With --no-skips what is skipped has failed.
 
-A line that begins with 'program' says on what a check of the hub, of parts or of the desk ran: on the program, or where
+A line that begins with 'program' says on what a check of the hub, of queues, of parts or of the desk ran: on the program, or where
 that is not built on a stand-in of the definitions. These checks never begin a proof. A check that runs for 25 minutes
 is stopped, and has failed. The first line says when the checks begin, and when the first and the last library below
 crates/ was made. A line before the last one says it again with the end of the checks.
@@ -133,6 +133,13 @@ CHECKS = {
         "mirrors": "compares a mirror in SQLite with the texts, while it and its site are killed",
         "page": "uses the page of a site in a browser",
     },
+    "queue": {
+        "queue_steps": "does what the page of queues shows, from nothing to a message that comes back as ACCEPTED",
+        "queue_kills": "kills a broker, a bridge, sites and their processes, while messages come by queues",
+        "queue_troubles":
+            "puts refused messages into queues, and takes sites, queues, brokers, rights and room from a bridge",
+        "queue_streams": "posts lines on streams, at sites with roles and at sites that are killed",
+    },
     "property": {
         "made_up": "compares made-up sets, worlds and groups with the definitions",
         "kept": "compares what is kept and what is closed of made-up sets with the definitions",
@@ -175,6 +182,9 @@ PACKAGES.update({name: ["gcc"] for name in [*CHECKS["embed"], "c_times"]})
 PACKAGES.update({name: ["python3-aiohttp"] for name in ["troubles", "processes", "replaced", "acknowledged", "journals",
                                                         "limits", "peers", "operators",
                                                         "forks", "rolls", "mirrors", "flips", "evidence"]})
+BROKER = ["python3-aiohttp", "python3-aio-pika", "rabbitmq-server"]
+PACKAGES.update({"queue_steps": [*BROKER, "amqp-tools"], "queue_kills": BROKER, "queue_troubles": [*BROKER, "openssl"],
+                 "queue_streams": ["python3-aiohttp", "openssl"]})
 PACKAGES["release"], PACKAGES["clocks"] = ["gcc", "python3-aiohttp"], ["python3-aiohttp", "gcc", "openssl"]
 PACKAGES.update({name: ["python3-aiohttp", "openssl"]
                  for name in ["clients", "kills", "fires", "attackers", "harms", "rights", "waits"]})
@@ -186,7 +196,7 @@ PACKAGES["java"] = ["libjna-java", "openjdk-17-jdk-headless", "gcc"]
 PACKAGES["page"] = ["python3-aiohttp", "chromium"]
 PACKAGES["parts"] = ["python3-dask", "python3-distributed", "python3-cryptography", "openssl"]
 PACKAGES["schema"], PACKAGES["marks"] = ["python3-jsonschema"], ["git"]
-PACKAGES["linters"] = ["flake8", "mypy", "shellcheck", "python3-aiohttp"]
+PACKAGES["linters"] = ["flake8", "mypy", "shellcheck", "python3-aiohttp", "python3-aio-pika"]
 PACKAGES["browser"], PACKAGES["shipped"], PACKAGES["worker"] = ["chromium"], ["gcc"], ["nodejs"]
 # what makes what a check needs, if it can in some minutes: it returns why it cannot
 MAKES = {"browser": page.make, "shipped": page.make}
@@ -198,13 +208,13 @@ HELPFUL = {"c_calls": ["valgrind"], "c_threads": ["valgrind"], "c_examples": ["c
 # the kinds and checks that need no proof, and those of them that the gate leaves out
 QUICK = ["documents", "examples", "cases", "lists", "readme", "operator_pages", "desk_tools",
          "desk_converters", "unproved", "parts",
-         "serve_examples", "hub"]
+         "serve_examples", "hub", "queue"]
 QUICK_ALONE = ["unproved"]
 SECONDS = 1500  # a check that runs for longer is stopped
 LANES = min(4, len(os.sched_getaffinity(0)))  # checks that run side by side
 FIRST = ["parts", "rolls"]  # the longest checks, which begin first
 SKIPPED = "skipped: "
-SEEDED = ["c_calls", "serve_lives", "serve_hub"]  # checks that make up cases as the property checks do
+SEEDED = ["c_calls", "serve_lives", "serve_hub", "queue_kills"]  # checks that make up cases as the property checks do
 VARIABLES = ["SCT_SITES", "SCT_TEST_DRIVER", "SCT_C", "NILUPPANG_LIBRARY"]
 
 

@@ -175,7 +175,7 @@ XML_LOOKED_UP_AT_ONCE = 16  # transfers that are looked up together
 
 PAGES_MOST = 100  # that watch
 PAGE_QUIET_SECONDS = 15  # after which a page that is silent gets an empty line
-PAGE_BACK_SECONDS = 60.0  # in which changes are still published after a page has gone, so that it misses none
+PAGE_BACK_SECONDS = 600.0  # in which changes are still published after a page has gone, so that it misses none
 EVENTS_MOST = 20000  # that are kept for a page that comes back
 EVENTS_MOST_BYTES = 8 << 20  # of them
 EVENT_MOST_BYTES = 1 << 20  # after a longer one a page loads again

@@ -8,6 +8,7 @@ from __future__ import annotations
 import asyncio
 import collections
 import contextlib
+import itertools
 import json
 from typing import Callable
 from aiohttp import web
@@ -39,9 +40,9 @@ class Stream:
             async for part in self.content.iter_any():
                 await self._take_room(len(part))
                 *lines, rest = (rest + part).split(b"\n")
+                self._came(list(itertools.takewhile(lambda line: len(line) <= limits.LINE_MOST_BYTES, lines)))
                 if any(len(line) > limits.LINE_MOST_BYTES for line in (*lines, rest)):
                     raise TooLong(f"a line has more than {limits.LINE_MOST_BYTES} bytes")
-                self._came(lines)
                 await self._wait_while(lambda: len(self.lines) + self.under_way > limits.STREAM_MOST_LINES)
             self._came([rest] if rest else [])
         except HttpProcessingError:

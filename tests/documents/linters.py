@@ -16,12 +16,13 @@ FOLDERS = ("bench", "bindings", "services", "tests", "tools", "web")
 SCRIPTS = [TOP / "web" / "build", harness.STAND_IN]  # files of Python without its ending
 # what mypy reads at once: the folders in which it looks for modules, and its words
 SERVICES = ("services",), ("-p", "hub", "-p", "parts")
+QUEUE = ("services/queue", "services"), ("-m", "main", "-p", "bridge")
 CLIENT = ("services/hub",), ("-m", "client", "-m", "hubctl")
 DESK = ("tools/desk",), tuple(word for path in sorted(harness.DESK.glob("*.py")) for word in ("-m", path.stem))
 # the modules that checks share, by their paths in tests/
 SHARED = ("harness", "inputs", "run", "chromium", "documents/pages", "documents/sources", "documents/linters",
           "golden/shown", "golden/titled",
-          "hub/sites", "hub/secure", "page/driving", "property/cases")
+          "hub/sites", "hub/secure", "queue/brokers", "page/driving", "property/cases")
 TOOLS = ((".", "services"), tuple(word for name in [*(f"tools.{path.stem}" for path in sorted((TOP / "tools").glob(
     "[!_]*.py"))), *(f"tests.{name.replace('/', '.')}" for name in SHARED)] for word in ("-m", name)))
 
@@ -48,7 +49,7 @@ def main() -> None:
     python = [path for path in files() if path.suffix == ".py"] + SCRIPTS
     right = [finds_nothing("flake8", [harness.command("flake8"), *map(str, python)])]
     with tempfile.TemporaryDirectory() as cache:
-        for folders, words in (SERVICES, CLIENT, DESK, TOOLS):
+        for folders, words in (SERVICES, QUEUE, CLIENT, DESK, TOOLS):
             where = os.pathsep.join(str(TOP / folder) for folder in folders)
             command = [harness.command("mypy"), "--cache-dir", cache, *words]
             right.append(finds_nothing(f"mypy in {' and '.join(folders)}", command, MYPYPATH=where))

@@ -22,10 +22,10 @@ SECTIONS = [["A first look", "Ask it", "Messages in XML"], ["Three sites with TL
 SILENT = {"stdout": subprocess.DEVNULL, "stderr": subprocess.DEVNULL}
 
 
-def commands(section):
-    """The commands of a section of the page, each with the lines that follow it: what it prints, or what is written to
-    a file."""
-    text = PAGE.read_text(encoding="utf-8").split(f"\n## {section}\n")[1].split("\n## ")[0]
+def commands(section, page=PAGE):
+    """The commands of a section of a page, each with the lines that follow it: what it prints, or what is written to a
+    file."""
+    text = page.read_text(encoding="utf-8").split(f"\n## {section}\n")[1].split("\n## ")[0]
     lines = [line[4:] for line in text.splitlines() if line.startswith("    ")]
     found = []
     for line in lines:

@@ -11,13 +11,12 @@ import importlib.util
 import json
 import os
 import pathlib
-import shutil
 import signal
 import socket
 import subprocess
 import sys
 import threading
-from typing import Any, Callable, Dict, Iterator, List, Optional
+from typing import Any, Callable, Dict, List, Optional
 from tests import harness
 from tests.hub import sites
 
@@ -230,22 +229,26 @@ class Clients:
                     routing_key=queue, mandatory=True) for number, body in some))
         await self._again(put)
 
-    def follow(self, queue: str, came: Callable[[Any], object]) -> None:
-        """Takes messages of a queue from now on, and acknowledges each."""
-        async def follow(channel: Any) -> None:
-            await channel.set_qos(prefetch_count=500)
-
+    def follow(self, queues: Dict[str, Callable[[Any], object]]) -> None:
+        """Takes messages of some queues from now on, and acknowledges each."""
+        def taking(came: Callable[[Any], object]) -> Callable[[Any], Any]:
             async def take(message: Any) -> None:
                 came(message)
                 await message.ack()
-            await (await channel.get_queue(queue)).consume(take)
+            return take
+
+        async def follow(channel: Any) -> None:
+            await channel.set_qos(prefetch_count=500)
+            for name, came in queues.items():
+                await (await channel.get_queue(name, ensure=False)).consume(taking(came))
             await asyncio.Event().wait()
         asyncio.run_coroutine_threadsafe(self._again(follow), self.loop)
 
-    def many(self, queue: str) -> int:
-        """How many messages are ready in a queue."""
+    def many(self, *queues: str) -> int:
+        """How many messages are ready in some queues."""
         async def count(channel: Any) -> int:
-            return (await channel.declare_queue(queue, passive=True)).declaration_result.message_count
+            return sum([(await channel.declare_queue(name, passive=True)).declaration_result.message_count
+                        for name in queues])
         return self.do(self._again(count))
 
     def channel(self, work: Callable[..., Any]) -> Any:
@@ -253,11 +256,15 @@ class Clients:
         return self.do(self._again(work))
 
 
-def removed(folder: str) -> None:
-    shutil.rmtree(folder, ignore_errors=True)
-
-
-@contextlib.contextmanager
-def broker_in(folder: pathlib.Path, tls: Optional[pathlib.Path] = None) -> Iterator[Broker]:
-    with Broker(folder, tls) as broker:
-        yield broker
+def wrong_in(path: pathlib.Path) -> str:
+    """Why a file of settings is not right. Nothing if it is."""
+    sys.path[:0] = [str(BRIDGE.parent), str(harness.SERVICES)]
+    from bridge.config import File
+    from hub.files import Wrong
+    try:
+        File(str(path)).settings()
+    except Wrong as wrong:
+        return str(wrong)
+    finally:
+        del sys.path[:2]
+    return ""

@@ -26,7 +26,7 @@ import sys
 import tempfile
 import threading
 import time
-from tests import harness, inputs
+from tests import harness
 from tests.harness import reported
 from tests.hub import kills, sites
 from tests.oracle.exchange import message_in
@@ -121,18 +121,20 @@ def kill(r, kind, broker, bridge, hub):
 
 
 def killed(r, asked, lines, clients, running, port, seen):
-    """Puts lines part by part, and kills something while each part is on its way. How many kills were made."""
-    made, progress = 0, 0
+    """Puts lines part by part, and kills something while each part is on its way. How many kills were made. After some
+    seconds no more are."""
+    made, progress, until = 0, 0, time.monotonic() + asked.seconds
     for number, part in enumerate(lines.parts(asked.kills)):
         def put(part=part):
             for name, its in part.items():
                 clients.put(name, its)
         putting = threading.Thread(target=put)
         putting.start()
-        # a part is on its way when some of it is there, or refused
-        sites.until(lambda: held(port) + len(seen.refused) > progress or not putting.is_alive(), 120)
-        time.sleep(r.uniform(0, 0.3))
-        made += kill(r, KINDS[number % len(KINDS)], *running)
+        if time.monotonic() < until:
+            # a part is on its way when some of it is there, or refused
+            sites.until(lambda: held(port) + len(seen.refused) > progress or not putting.is_alive(), 120)
+            time.sleep(r.uniform(0, 0.3))
+            made += kill(r, KINDS[number % len(KINDS)], *running)
         putting.join(SETTLE_SECONDS)
         sites.until(lambda: held(port), 120)
         progress = held(port) + len(seen.refused)
@@ -202,7 +204,7 @@ def judged(lines, seen, texts, waits, left, made, asked):
     yield (f"the last of {seen.changes} changes of each of {len(seen.last)} transfers is what the sites answer", right,
            f"{many} are not")
     yield "each change is in the queue of its bank alone", not seen.wrong, "\n".join(seen.wrong[:3])
-    yield "nothing is left in a queue", not any(left.values()), str(left)
+    yield "nothing is left in a queue", not left, f"{left}"
     yield f"all {asked.kills} kills were made", made == asked.kills, f"{made}"
 
 
@@ -211,15 +213,23 @@ def is_waiting(line, waits):
     return (whole(its.get("InstgAgt", "")), its.get("OrgnlTxId")) in waits
 
 
-def settled(port, seen, lines):
+def settled(port, seen, lines, clients):
     """Waits until all has come where it goes. The texts of all sites."""
-    ask = sites.asked
+    queues = [*lines.queues, "refused", *map(whole, lines.banks)]
     texts = {}
+
+    def is_quiet():
+        return not clients.many(*queues) and len(kills.vectors(sites.asked, port, range(1, SITES + 1))) == 1
 
     def is_so():
         nonlocal texts
-        texts = kills.same_texts(ask, port)
-        return (len(texts) == 3 and changes_fit(seen, status_lines(texts["status"]))[0])
+        before = seen.changes
+        sites.until(is_quiet, SETTLE_SECONDS)
+        time.sleep(1)  # for what a bridge has in its hands
+        if before != seen.changes:
+            return False
+        texts = kills.same_texts(sites.asked, port)
+        return len(texts) == len(kills.oracle.TEXT) and changes_fit(seen, status_lines(texts["status"]))[0]
     sites.until(is_so, SETTLE_SECONDS)
     return texts
 
@@ -238,15 +248,12 @@ def check(python, program):
             bridge, clients, seen = Bridge(top / "queue.toml", text), Clients(broker.url()), Seen()
             if bridge.made().status:
                 harness.stop(f"nothing is declared: {bridge.made().errors.decode()}")
-            clients.follow("refused", seen.refusal)
-            for bank in map(whole, lines.banks):
-                clients.follow(bank, seen.change(bank))
+            clients.follow({"refused": seen.refusal, **{bank: seen.change(bank) for bank in map(whole, lines.banks)}})
             with bridge:
                 began = time.monotonic()
                 made = killed(r, asked, lines, clients, (broker, bridge, hub), port, seen)
-                sites.until(lambda: not any(map(clients.many, lines.queues)), SETTLE_SECONDS)
-                texts = settled(port, seen, lines)
-                left = {name: clients.many(name) for name in [*lines.queues, "refused"]}
+                texts = settled(port, seen, lines, clients)
+                left = clients.many(*lines.queues, "refused")
                 right = [reported(*one) for one in judged(lines, seen, texts, waiting(port), left, made, asked)]
                 print(f"{len(lines.all)} messages in {time.monotonic() - began:.0f} s, {made} kills; "
                       f"{seen.anew} marks of banks that all is given anew")
@@ -261,10 +268,11 @@ def options():
     it.add_argument("--messages", type=int)
     it.add_argument("--seed", type=int, default=20261201)
     it.add_argument("--cases", type=int, help="for others alone")
+    it.add_argument("--seconds", type=float, default=1000, help="after which nothing more is killed")
     it.add_argument("--long", action="store_true", help="200 kills and 100,000 messages")
     asked = it.parse_args(sys.argv[1:])
     asked.kills = asked.kills or (200 if asked.long else 8)
-    asked.messages = asked.messages or (100_000 if asked.long else 1200)
+    asked.messages = asked.messages or (100_000 if asked.long else 800)
     return asked
 
 
