@@ -26,11 +26,14 @@ LIBRARY = "libniluppang" + SHORT
 LIBRARIES = "usr/lib/x86_64-linux-gnu/"
 DOC, MANUAL, MODULES = "usr/share/doc/", "usr/share/man/man1/", "usr/lib/python3/dist-packages/"
 DESK, HUB = "usr/share/niluppang/desk/", "usr/share/niluppang/services/hub/"
-DOCUMENTS, SERVICE = "share/doc/niluppang/", "share/niluppang/services/hub/"  # in the archive
+QUEUE = "usr/share/niluppang/services/queue/"
+# in the archive
+DOCUMENTS, SERVICE, BRIDGE = "share/doc/niluppang/", "share/niluppang/services/hub/", "share/niluppang/services/queue/"
 AIOHTTP = "python3-aiohttp (>= 3.8.4-1+deb12u2)"
 # of services/hub: what has a place of its own; the rest of system/ and DASHBOARD are examples for operators
 UNIT, PAGE, DASHBOARD = "system/niluppang-hub@.service", "system/niluppang-hub.1", "dashboard.json"
 COMMANDS = {"niluppang-hub": "main.py", "hubctl": "hubctl.py"}
+QUEUE_UNIT = "system/niluppang-queue@.service"
 COPYRIGHT = "Copyright {year} the authors of Niluppang. No licence has been granted yet.\n"
 NEWS = f"""niluppang ({REVISION}) unstable; urgency=medium
 
@@ -98,6 +101,7 @@ package itself."""),
 Each site runs the proved process of sct_sites with a journal in a file.
 Around it is a service in Python: banks post messages and ask about their
 transfers, sites exchange what they hold, and a page serves the desk.
+Messages may come by queues of a broker, which gets what changes.
 .
 A unit of systemd runs a site, and is not enabled at the installation. The
 package has examples of its configuration, of a server before it, and of
@@ -126,6 +130,7 @@ if [ "$1" = configure ]; then
     adduser --quiet --system --group --gecos 'sites of a hub' --home /var/lib/niluppang --no-create-home niluppang
     dpkg-statoverride --list /etc/niluppang >/dev/null || chown root:niluppang /etc/niluppang
     py3compile -p niluppang-hub /usr/share/niluppang/services/hub
+    py3compile -p niluppang-hub /usr/share/niluppang/services/queue
 fi
 # sites that run go on with the version before, until somebody restarts them one after another
 if [ -d /run/systemd/system ]; then
@@ -136,9 +141,10 @@ HUB_PRERM = """\
 #!/bin/sh
 set -e
 if [ "$1" = remove ] && [ -d /run/systemd/system ]; then
-    systemctl stop 'niluppang-hub@*.service'
+    systemctl stop 'niluppang-hub@*.service' 'niluppang-queue@*.service'
 fi
 rm -rf /usr/share/niluppang/services/hub/__pycache__
+rm -rf /usr/share/niluppang/services/queue/__pycache__ /usr/share/niluppang/services/queue/bridge/__pycache__
 """
 HUB_POSTRM = """\
 #!/bin/sh
@@ -146,7 +152,7 @@ set -e
 # journals in /var/lib/niluppang are payments, and keys in /etc/niluppang are not of this package: they stay, and so
 # does who owns them
 if [ "$1" = purge ]; then
-    rm -f /etc/systemd/system/*.wants/niluppang-hub@*.service
+    rm -f /etc/systemd/system/*.wants/niluppang-hub@*.service /etc/systemd/system/*.wants/niluppang-queue@*.service
     if [ ! -e /var/lib/niluppang ] && [ ! -e /etc/niluppang ] && command -v deluser >/dev/null; then
         deluser --quiet --system niluppang
     fi
@@ -263,16 +269,29 @@ def placed(its: dict[str, bytes]) -> dict[str, Entry]:
             MANUAL + "hubctl.1.gz": Entry(None, 0o777, "niluppang-hub.1.gz"), "etc/niluppang": Entry(None, 0o750)}
 
 
+def bridge(found: dict[str, bytes]) -> dict[str, Entry]:
+    """The files of services/queue: its command, its unit, an example, and the rest in one folder."""
+    its = below(found, BRIDGE)
+    if QUEUE_UNIT not in its:
+        raise Missing(f"git has no {QUEUE_UNIT} in services/queue")
+    files = {"usr/bin/niluppang-queue": Entry(COMMAND.format(path=QUEUE + "main.py").encode(), 0o755),
+             MANUAL + "niluppang-queue.1.gz": Entry(None, 0o777, "niluppang-hub.1.gz")}
+    for path, data in its.items():
+        place = ("lib/systemd/system/" if path == QUEUE_UNIT else DOC + "niluppang-hub/examples/") + path.split("/")[-1]
+        files[place if path.startswith("system/") else QUEUE + path] = entry(path, data)
+    return files
+
+
 def hub(found: dict[str, bytes]) -> Package:
     its = below(found, SERVICE)
-    files = placed(its)
+    files = {**placed(its), **bridge(found)}
     for path in set(its) - {UNIT, PAGE}:
         is_example = path.startswith("system/") or path == DASHBOARD
         files[DOC + "niluppang-hub/examples/" + path.split("/")[-1] if is_example else HUB + path] = entry(path,
                                                                                                            its[path])
     fields = control("niluppang-hub", "all",
                      Depends=f"niluppang (= {REVISION}), python3 (>= 3.11), {AIOHTTP}, adduser",
-                     Suggests="libnginx-mod-stream, openssl, prometheus")
+                     Suggests="libnginx-mod-stream, openssl, prometheus, python3-aio-pika, rabbitmq-server")
     return Package(fields, files, {"postinst": HUB_POSTINST, "prerm": HUB_PRERM, "postrm": HUB_POSTRM}, OF_HUB)
 
 

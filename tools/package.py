@@ -11,7 +11,7 @@ which is the list of the release. The archive has one folder of its name:
     share/man/, share/doc/           the manual page, by both names; all pages and examples of the repository; and BUILD
     share/niluppang/python/          the Python package
     share/niluppang/java/            the Java package, and niluppang.jar of it
-    share/niluppang/services/        the sites of a hub as a service, and answers on parts of an input
+    share/niluppang/services/        the sites of a hub as a service, messages by a queue, and answers on parts of an input
     share/niluppang/desk/            the tools of a desk, and the page of codes, which one of them reads
     share/niluppang/niluppang.html   the page
     SHA256SUMS                       the sums of all other files: `sha256sum -c SHA256SUMS`
@@ -22,7 +22,7 @@ The packages have the same files, at the places that Debian has for them (debian
     libniluppang0.3_VERSION-1_amd64.deb   the shared library
     libniluppang-dev_VERSION-1_amd64.deb  the C header, the library for static programs, and niluppang.pc
     python3-niluppang_VERSION-1_all.deb   the Python package
-    niluppang-hub_VERSION-1_all.deb       the sites of a hub as a service, with a unit of systemd, and examples
+    niluppang-hub_VERSION-1_all.deb       the sites of a hub as a service and messages by a queue, with units of systemd
 
 There is no package for Java. On a machine without a JDK the archive is made without niluppang.jar: build.sh beside the
 sources makes it.

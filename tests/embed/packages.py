@@ -97,6 +97,9 @@ HAS = {
     "python3-niluppang": [f"usr/lib/python3/dist-packages/niluppang/{name}" for name in MODULES],
     "niluppang-hub": [
         "etc/niluppang", "usr/bin/niluppang-hub", "usr/bin/hubctl", "lib/systemd/system/niluppang-hub@.service",
+        "usr/bin/niluppang-queue", "lib/systemd/system/niluppang-queue@.service", f"{SHARED}services/queue/main.py",
+        f"{SHARED}services/queue/bridge/taking.py", "usr/share/man/man1/niluppang-queue.1.gz",
+        "usr/share/doc/niluppang-hub/examples/queue.toml",
         "usr/share/man/man1/niluppang-hub.1.gz", "usr/share/man/man1/hubctl.1.gz",
         *(f"{SHARED}services/hub/{name}"
           for name in ("main.py", "hubctl.py", "desk.html", "meanings.json", "codes.json")),
@@ -104,12 +107,13 @@ HAS = {
         *(f"usr/share/doc/niluppang-hub/examples/{name}" for name in ("certificates.sh", "roles.toml", "site.toml"))]
 }
 MODES = {"usr/bin/sct_sites": 0o755, "usr/bin/niluppang-hub": 0o755, "usr/bin/hubctl": 0o755,
+         "usr/bin/niluppang-queue": 0o755, "usr/share/man/man1/niluppang-queue.1.gz": 0o777,
          SHARED + "desk/desk.sh": 0o755,
          "usr/bin/niluppang": 0o777, "usr/share/man/man1/niluppang.1.gz": 0o777,
          "usr/share/doc/niluppang-hub/examples/certificates.sh": 0o755, "etc/niluppang": 0o750,
          LIBRARIES + "libniluppang.so": 0o777, "usr/share/man/man1/hubctl.1.gz": 0o777}
 MORE = {"niluppang": ("usr/share/doc/niluppang/",),
-        "niluppang-hub": (SHARED + "services/hub/", "usr/share/doc/niluppang-hub/examples/")}
+        "niluppang-hub": (SHARED + "services/hub/", SHARED + "services/queue/", "usr/share/doc/niluppang-hub/examples/")}
 LIBC, NUMBER = r"libc6 \(>= 2\.\d+\)", re.escape(library.VERSION + "-1")
 # section and architecture of each package, and what it depends on, as a pattern
 FIELDS = {
@@ -183,14 +187,14 @@ SAME = {"usr/bin/sct_sites": "bin/sct_sites", LIBRARIES + library.SONAME: "lib/"
 
 
 def same_bytes(debs, archive):
-    """Whether the files of packages are those of the archive, and all of services/hub is there."""
+    """Whether the files of packages are those of the archive, and all of services/hub and services/queue is there."""
     place = {path: data for deb in debs for path, _, data in entries(deb)}
     yield reported("the bytes are those of the archive",
                    all(place[path] == archive[other] for path, other in SAME.items()))
-    hub = {path: data for path, data in archive.items() if path.startswith("share/niluppang/services/hub/")
-           and not path.endswith(".1")}
+    services = ("share/niluppang/services/hub/", "share/niluppang/services/queue/")
+    hub = {path: data for path, data in archive.items() if path.startswith(services) and not path.endswith(".1")}
     lost = [path for path, data in hub.items() if data not in place.values()]
-    yield reported("all of services/hub is in a package", not lost, f"{lost}")
+    yield reported("all of services/hub and services/queue is in a package", not lost, f"{lost}")
     said = [data.decode() for path, data in place.items() if path.endswith("/copyright")]
     one_line = r"Copyright \d{4} the authors of Niluppang\. No licence has been granted yet\.\n"
     yield reported("no licence", len(said) == 5 and all(re.fullmatch(one_line, text) for text in said), f"{said}")
