@@ -11,7 +11,7 @@ which is the list of the release. The archive has one folder of its name:
     share/man/, share/doc/           the manual page, by both names; all pages and examples of the repository; and BUILD
     share/niluppang/python/          the Python package
     share/niluppang/java/            the Java package, and niluppang.jar of it
-    share/niluppang/services/        the sites of a hub as a service, messages by a queue, and answers on parts of an input
+    share/niluppang/services/        the sites of a hub, messages by a queue, and answers on parts of an input
     share/niluppang/desk/            the tools of a desk, and the page of codes, which one of them reads
     share/niluppang/niluppang.html   the page
     SHA256SUMS                       the sums of all other files: `sha256sum -c SHA256SUMS`

@@ -23,7 +23,7 @@ DESK = ("tools/desk",), tuple(word for path in sorted(harness.DESK.glob("*.py"))
 SHARED = ("harness", "inputs", "run", "chromium", "documents/pages", "documents/sources", "documents/linters",
           "golden/shown", "golden/titled",
           "hub/sites", "hub/secure", "queue/brokers", "page/driving", "property/cases")
-TOOLS = ((".", "services"), tuple(word for name in [*(f"tools.{path.stem}" for path in sorted((TOP / "tools").glob(
+TOOLS = ((".", "services", "services/queue"), tuple(word for name in [*(f"tools.{path.stem}" for path in sorted((TOP / "tools").glob(
     "[!_]*.py"))), *(f"tests.{name.replace('/', '.')}" for name in SHARED)] for word in ("-m", name)))
 
 

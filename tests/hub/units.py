@@ -148,14 +148,14 @@ def reads_heads():
 # ---- events
 
 def marks_events():
-    one, other = events.Events(), events.Events()
+    one, other = events.Events(lambda: "1:7"), events.Events()
     yield "no two runs of a site have one mark", one.began != other.began
     queue, slow = events.Queue(), events.Queue()
     one.queues |= {queue, slow}
     one.add([("BANKDEFFXXX", "T1", "T|BANKDEFFXXX|T1|PENDING\n")])
     first = queue.get_nowait()
     data = '[{"bank": "BANKDEFFXXX", "tx": "T1", "lines": ["T|BANKDEFFXXX|T1|PENDING"]}]'
-    yield "an event", first == f"id: {one.began}-1\nevent: transfers\ndata: {data}\n\n".encode()
+    yield "an event", first == f"id: {one.began}-1\nevent: transfers\nvector: 1:7\ndata: {data}\n\n".encode()
     one.add([("BANKDEFFXXX", f"T{number}", None) for number in range(limits.EVENT_MOST_TRANSFERS + 1)])
     one.add(None)
     one.add([("BANKDEFFXXX", "T2", "x" * (2 << 20))])

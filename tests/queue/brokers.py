@@ -22,7 +22,7 @@ from tests.hub import sites
 
 SERVER = "/usr/lib/rabbitmq/bin/rabbitmq-server"
 BRIDGE = harness.SERVICES / "queue" / "main.py"
-START_SECONDS = 300  # in which a broker must start, also on a busy machine
+START_SECONDS = 900  # in which a broker must start, also on a busy machine
 
 
 def with_aio_pika(module: str) -> None:

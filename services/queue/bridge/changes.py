@@ -87,8 +87,8 @@ class Changes:
                 for event in self.following.all(LOST_SECONDS):
                     self.say.over("site", f"{self.client.address()} says what changes")
                     self.events.put(event)
-            except Failed as failed:
-                self.say.once("site", f"{failed}; it is asked again")
+            except Exception as fault:
+                self.say.once("site", f"{fault or type(fault).__name__}; it is asked again")
                 time.sleep(AGAIN_SECONDS)
 
     def batches(self) -> Iterator[Batch]:

@@ -48,7 +48,7 @@ class Exchange:
         while True:
             try:
                 await self._session(pauses)
-            except FAULTS as fault:
+            except (Exception, *FAULTS) as fault:
                 self.say.once("broker", f"{why(fault)}; what changes waits")
             await pauses.wait()
 

@@ -38,7 +38,7 @@ class Taking:
         while True:
             try:
                 await self._session(pauses)
-            except FAULTS as fault:
+            except (Exception, *FAULTS) as fault:
                 self.say.once("broker", f"{why(fault)}; nothing is acknowledged meanwhile")
             await pauses.wait()
 
