@@ -190,7 +190,7 @@ class Clients:
 
     def do(self, work: Any) -> Any:
         """Waits for something that the loop does."""
-        return asyncio.run_coroutine_threadsafe(work, self.loop).result(sites.LONGEST)
+        return asyncio.run_coroutine_threadsafe(work, self.loop).result(2 * START_SECONDS)
 
     async def _again(self, work: Callable[..., Any]) -> Any:
         """Does something on a channel. If the connection ends meanwhile, it is done again on another one."""

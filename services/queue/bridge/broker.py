@@ -36,7 +36,7 @@ def why(fault: BaseException) -> str:
         return f"it is not there: {fault}; --make declares what the file names"
     if isinstance(fault, DeliveryError):
         return "the broker has no room for a message in a queue, or the queue is gone: make room, or declare it"
-    return f"the broker is away: {fault or type(fault).__name__}"
+    return f"the broker is away: {str(fault) or type(fault).__name__}"
 
 
 @contextlib.asynccontextmanager
