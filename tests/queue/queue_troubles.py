@@ -345,7 +345,8 @@ def webhook(world, broker):
     came = hook.came
     same = len(came) >= 3 and came[0][0] == came[1][0] == came[2][0]
     yield "a webhook that fails is posted the same again, and the error says so", same and "status 503" in said, said
-    yield "each post is signed", all(is_signed(*one) for one in came) and not is_signed(came[0][0] + b" ", came[0][1]), ""
+    yield "each post is signed", came and all(is_signed(*one) for one in came) and not is_signed(
+        came[0][0] + b" ", came[0][1]), ""
     changes = [json.loads(one) for body, _ in came[2:] for one in body.splitlines()]
     yield "and has all that the queue of the bank has", {its["tx"] for its in changes if "tx" in its} == {
         its["tx"] for its in world.changes if "tx" in its}, f"{changes[:2]}"

@@ -9,6 +9,7 @@ import ssl
 import urllib.parse
 from typing import Any, Dict, Optional, Tuple
 from hub.access import BIC
+from hub.access import bank as whole_bank
 from hub.client import Client
 from hub.config import NUMBER, WORDS, listed_in, must_be_closed, parsed, typed
 from hub.files import Wrong
@@ -79,12 +80,12 @@ def needed(table: Dict[str, Any], what: str, *keys: str) -> None:
 
 
 def banks_in(value: object, what: str) -> Tuple[str, ...]:
-    """The banks of a queue: one as a text, or several as a list."""
+    """The banks of a queue, in 11 characters: one as a text, or several as a list."""
     banks = [value] if isinstance(value, str) else value
     if not isinstance(banks, list) or not banks or not all(isinstance(bank, str) and BIC.fullmatch(bank)
                                                            for bank in banks):
         raise Wrong(f"{what} is not a BIC of 8 or 11 capitals and digits, and not a list of such")
-    return tuple(banks)
+    return tuple(map(whole_bank, banks))
 
 
 def queues_in(table: Dict[str, Any], what: str) -> Dict[str, Tuple[str, ...]]:

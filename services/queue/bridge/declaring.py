@@ -31,4 +31,4 @@ async def declare_given(channel: AbstractChannel, given: Given) -> None:
     for name, banks in given.queues.items():
         queue = await channel.declare_queue(name, durable=True)
         for bank in banks:
-            await queue.bind(exchange, routing_key=bank + "XXX" if len(bank) == 8 else bank)
+            await queue.bind(exchange, routing_key=bank)
