@@ -90,7 +90,7 @@ class Broker:
 
     def configure(self, has_room: bool) -> None:
         lines = [f"listeners.tcp.1 = 127.0.0.1:{self.port}", "log.console = true", "log.console.level = warning",
-                 "log.file = false", f"disk_free_limit.absolute = {'1MB' if has_room else '900TB'}"]
+                 "log.file = false", f"disk_free_limit.absolute = {10 ** 6 if has_room else 10 ** 15}"]
         if self.tls:
             lines += [f"listeners.ssl.1 = 127.0.0.1:{self.secure}",
                       f"ssl_options.cacertfile = {self.tls}/authority.crt",

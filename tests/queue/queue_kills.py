@@ -131,8 +131,9 @@ def killed(r, asked, lines, clients, running, port, seen):
         putting = threading.Thread(target=put)
         putting.start()
         if time.monotonic() < until:
-            # a part is on its way when some of it is there, or refused
-            sites.until(lambda: held(port) + len(seen.refused) > progress or not putting.is_alive(), 120)
+            # some of the part is there, or refused
+            some = progress + r.randint(0, sum(map(len, part.values())) // 2)
+            sites.until(lambda: held(port) + len(seen.refused) > some, 60)
             time.sleep(r.uniform(0, 0.3))
             made += kill(r, KINDS[number % len(KINDS)], *running)
         putting.join(SETTLE_SECONDS)

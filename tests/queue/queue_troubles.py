@@ -1,7 +1,7 @@
 """queue_troubles.py: what a bridge does with refused lines and in trouble: sites, queues and brokers that are away, that do
 not trust it, or that have no room. Nothing is lost, and each trouble has a clear error.
 
-Sites have TLS and roles. The bridge asks them with the certificate of an operator who is of the desk too, and each queue
+Words of its command line name some of the steps. Sites have TLS and roles. The bridge asks them with the certificate of an operator who is of the desk too, and each queue
 stands for one bank.
 """
 from __future__ import annotations
@@ -10,6 +10,7 @@ import http.server
 import json
 import pathlib
 import shutil
+import sys
 import tempfile
 import threading
 from tests import inputs
@@ -88,6 +89,12 @@ class World:
         clients.follow({"refused": lambda message: self.refused.append((message.body, dict(message.headers)))})
         clients.follow({"to-deff": lambda message: self.changes.append(json.loads(message.body))})
 
+    def is_quiet(self, clients, number):
+        """Whether a message comes through, and the mark of its change is written."""
+        clients.put("from-deff", [line(number)])
+        mark = self.folder / "status.mark"
+        return until(lambda: self.last(f"T{number}") and self.changes[-1]["event"] in mark.read_text())
+
     def last(self, tx):
         """The last status that the queue of the bank had of a transfer."""
         return next((its["status"] for its in reversed(self.changes) if its.get("tx") == tx), None)
@@ -103,7 +110,7 @@ def answer(number):
 
 # ---- what is refused, waits or is there already
 
-def outcomes(world, clients):
+def outcomes(world, clients, *_):
     kinds = kinds_of_numbers()
     clients.put("from-deff", [its for its, _ in kinds])
     until(lambda: len(world.refused) >= len(kinds))
@@ -148,7 +155,7 @@ def fits(said, refusal):
 
 # ---- trouble with sites
 
-def sites_away(world, clients, hub, bridge):
+def sites_away(world, clients, _, bridge, hub):
     hub.end()
     clients.put("from-deff", [line(10), b"{\"a\":1}"])
     world.refused.clear()
@@ -163,12 +170,12 @@ def sites_away(world, clients, hub, bridge):
         lambda: world.last("T10") == "PENDING" and len(world.refused) >= 1), bridge.said()[-800:]
 
 
-def first_away(world, clients, hub, bridge):
+def first_away(world, clients, _, bridge, hub):
     """The first site is away, and stays so."""
     hub.end()
     alone = sites.Hub(world.python, world.program, world.folder / "hub", "--only=2", config=world.config)
     with alone:
-        until(lambda: world.made.asked(world.port + 1, "/live").status == 200)
+        until(lambda: world.made.asked(world.port + 1, "/live", who="reader").status == 200)
         clients.put("from-deff", [line(11)])
         # site 2 takes after it has heard a peer: none is there, so it needs --hear 0, or the message waits
         yield "the bridge goes on with the next site", until(lambda: f"localhost:{world.port + 1}" in bridge.said()), \
@@ -202,7 +209,7 @@ def secure_url(broker):
 
 # ---- trouble with queues
 
-def gone(world, clients, bridge):
+def gone(world, clients, _, bridge, *more):
     async def deletes(channel, name):
         await channel.queue_delete(name)
 
@@ -227,7 +234,7 @@ def gone(world, clients, bridge):
         lambda: world.last("T31") == "PENDING" and any(body == b"{\"b\":1}" for body, _ in world.refused)), bridge.said()
 
 
-def full(world, clients, bridge):
+def full(world, clients, _, bridge, *more):
     """The queue of what is refused takes one message, and the broker refuses more."""
     async def bound(channel):
         await channel.queue_delete("refused")
@@ -258,8 +265,9 @@ def full(world, clients, bridge):
     yield "with room each comes", until(lambda: takes() if None not in found else found.discard(None)), f"{found}"
 
 
-def without_room(world, clients, broker, bridge):
+def without_room(world, clients, broker, bridge, *_):
     """The broker starts without room on its disk: it gives messages, and takes none."""
+    yield "what came before has its mark", world.is_quiet(clients, 39), bridge.said()
     bridge.kill()
     clients.put("from-deff", [line(40), b"{\"d\":1}"])
     mark = (world.folder / "status.mark").read_bytes()
@@ -289,9 +297,9 @@ async def renewed(channel):
 
 # ---- from where it stopped
 
-def goes_on(world, clients, bridge):
+def goes_on(world, clients, _, bridge, *more):
     """A bridge that is killed goes on after its mark, and gives nothing anew or twice."""
-    until(lambda: not clients.many("from-deff"))
+    yield "a change is given on, and has its mark", world.is_quiet(clients, 49), bridge.said()
     with Bridge(world.folder / "in.toml", bridge.path.read_text(), "--only", "in"):
         bridge.kill()
         clients.put("from-deff", [line(number) for number in range(50, 60)])
@@ -330,7 +338,7 @@ class Hook(http.server.BaseHTTPRequestHandler):
         """Prints nothing."""
 
 
-def webhook(world, broker):
+def webhook(world, _, broker, *more):
     hook = http.server.HTTPServer(("127.0.0.1", 0), Hook)
     hook.came = []
     threading.Thread(target=hook.serve_forever, daemon=True).start()
@@ -363,7 +371,7 @@ def is_signed(body, headers):
 
 # ---- files of settings
 
-def wrong_files(world, broker):
+def wrong_files(world, _, broker):
     """Files that are not right, and what is said of each."""
     right = world.settings(broker)
     for text, said in ((right.replace("[in.queues]", "[in.queue]"), "[in] has no key queue"),
@@ -390,27 +398,25 @@ def check(python, program):
             sites.begun(hub.process, lambda: all(world.made.asked(world.port + site, "/health", who="reader").status
                                                  == 200 for site in range(2)))
             clients, bridge = Clients(broker.url()), Bridge(world.folder / "queue.toml", world.settings(broker))
-            for step in steps(world, clients, broker, bridge, hub):
-                right += [reported(*one) for one in step]
+            made = bridge.made()
+            right.append(reported("all is declared, also a second time", (made.status, bridge.made().status) == (0, 0),
+                                  f"{made}"))
+            world.follow(clients)
+            for step in chosen(BEFORE):
+                right += [reported(*one) for one in step(world, clients, broker)]
+            with bridge:
+                for step in chosen(STEPS):
+                    right += [reported(*one) for one in step(world, clients, broker, bridge, hub)]
     return right
 
 
-def steps(world, clients, broker, bridge, hub):
-    """All that is tried, one after the other."""
-    yield wrong_files(world, broker)
-    made = bridge.made()
-    yield [("all is declared, also a second time", (made.status, bridge.made().status) == (0, 0), f"{made}")]
-    world.follow(clients)
-    yield untrusted(world, clients, broker)
-    with bridge:
-        yield outcomes(world, clients)
-        yield goes_on(world, clients, bridge)
-        yield webhook(world, broker)
-        yield sites_away(world, clients, hub, bridge)
-        yield first_away(world, clients, hub, bridge)
-        yield gone(world, clients, bridge)
-        yield full(world, clients, bridge)
-        yield without_room(world, clients, broker, bridge)
+def chosen(steps):
+    """Those of some steps that the command line names, or all."""
+    return [step for step in steps if step.__name__ in sys.argv[1:] or not sys.argv[1:]]
+
+
+BEFORE = [wrong_files, untrusted]  # the bridge begins
+STEPS = [outcomes, goes_on, webhook, sites_away, first_away, gone, full, without_room]
 
 
 if __name__ == "__main__":

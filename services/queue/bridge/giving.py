@@ -103,11 +103,16 @@ class Posts:
         at = str(int(time.time()))
         headers = {"Content-Type": "application/x-ndjson", "Niluppang-Event": event, "Niluppang-Time": at,
                    "Niluppang-Signature": f"sha256={signature(self.its.secret, at, body)}"}
+        connection = self.site.fresh()
+        connection.timeout = ANSWER_SECONDS
         try:
-            answer = self.site.ask("POST", "" if self.site.path else "/", body, headers, ANSWER_SECONDS)
+            connection.request("POST", self.site.path or "/", body, headers)
+            status = connection.getresponse().status
         except SITE_FAULTS as fault:
             return str(self.site.failure(fault))
-        return None if 200 <= answer.status < 300 else f"{self.its.url}: status {answer.status}"
+        finally:
+            connection.close()
+        return None if 200 <= status < 300 else f"{self.its.url}: status {status}"
 
 
 def signature(secret: bytes, at: str, body: bytes) -> str:
