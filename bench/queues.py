@@ -34,7 +34,7 @@ from hub.client import Client
 brokers.with_aio_pika("bench.queues")
 import aio_pika
 
-POSTERS, SAMPLES, LOAD = 64, 300, 200
+POSTERS, SAMPLES, LOAD = 64, 200, 100
 IN_FLIGHT = (1, 100, 1000)
 numbers = itertools.count(1)
 

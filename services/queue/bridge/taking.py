@@ -67,12 +67,11 @@ class Taking:
                 await channel.get_queue(self.name, ensure=True)
 
     async def _works(self, came: asyncio.Queue[Came], refused: AbstractChannel) -> None:
-        """Posts what came, and acknowledges it afterwards: half of what is on its way, while the rest comes."""
-        most = max(1, self.taken.in_flight // 2)
+        """Posts what came, and acknowledges it afterwards."""
         while True:
             some = [await came.get()]
             size = len(some[0].body)
-            while not came.empty() and size < TAKEN_BYTES and len(some) < most:
+            while not came.empty() and size < TAKEN_BYTES:
                 some.append(came.get_nowait())
                 size += len(some[-1].body)
             refusals = await self._posted(some)
