@@ -7,7 +7,7 @@ others it gets the answers of a hub that holds nothing.
 from __future__ import annotations
 import asyncio
 import json
-from typing import Any, Callable
+from typing import Any, Awaitable, Callable, TypeVar
 from aiohttp import web
 from . import iso, limits, lists
 from .access import Who, bank as whole_bank
@@ -20,8 +20,9 @@ from .posts import Asker
 from .questions import on_transfer, without_banks, words_of
 from .shares import Shares
 from .waiting import Waiting
-from .work import Answer, outcome_line
+from .work import outcome_line
 
+Found = TypeVar("Found")
 SHOWN_CELLS = ("number", "at", "until", "bank", "kind", "originator", "tx", "request", "state", "outcome", "ended")
 AS_SAVED = "the list was read as a spreadsheet saves it"
 BLANK = b" \t\r"
@@ -99,10 +100,10 @@ class ForBanks:
         """The banks for which somebody asks. None if it sees all."""
         return None if request["sees_all"] else request["who"].banks
 
-    async def _answers(self, questions: list[bytes], banks: frozenset[str] | None) -> list[Answer]:
+    async def _answered(self, asking: Awaitable[Found], banks: frozenset[str] | None) -> Found:
         """What is answered to questions for some banks. Forbidden if a bank asks about another one."""
         try:
-            return await self.keeper.ask_all(questions)
+            return await asking
         except Refused as refused:
             if refused.number == NOT_YOURS:
                 raise Forbidden("a bank asks about itself alone") from None
@@ -127,7 +128,8 @@ class ForBanks:
         names = [*([b"messages"] if is_messages or banks is not None else []), *([] if is_messages else [b"transfer"])]
         async with self.shares.asked.turn(request["who"].name):
             self.charged(request, 1)
-            answers = await self._answers([words_of(name, bank, tx, banks) for name in names], banks)
+            questions = [words_of(name, bank, tx, banks) for name in names]
+            answers = await self._answered(self.keeper.ask_all(questions), banks)
             if banks is not None:
                 self.charged(request, min(len(answers[0].text) // limits.LINE_COST_BYTES, limits.POST_MOST_LINES))
                 if not answers[0].text and whole_bank(bank.decode()) not in banks:
@@ -138,7 +140,8 @@ class ForBanks:
         self.charged(request, limits.TOTALS_COST_LINES)
         banks = self.seen_by(request)
         async with self.shares.totals.turn(request["who"].name, not request["sees_all"]):
-            answer, = await self._answers([words_of(b"bank", request.match_info["bank"].encode(), banks=banks)], banks)
+            question = words_of(b"bank", request.match_info["bank"].encode(), banks=banks)
+            answer = await self._answered(self.keeper.answer(question), banks)
         return await self.front.sent(request, answer.text, TEXT, self.shares.answers)
 
     # ---- reports
@@ -165,14 +168,13 @@ class ForBanks:
         """The report on a list, and what its head says of rows. Refused if it is no list as the program reads it. That
         of the desk is made for the bank, too, which may be given it."""
         names = await asyncio.to_thread(lists.rows_of_list, rows, not request["sees_all"])
-        self.charged(request, len(names))
         # line feeds are tabs in a question: a record with a tab of its own is wrong, and stays so with another
         # character
         listed = rows.replace(b"\t", b"\x01").replace(b"\n", b"\t")
         banks = frozenset([whole_bank(bank)]) if request["sees_all"] else request["who"].banks
         question = words_of(b"report", bank.encode(), day.encode(), banks) + b" " + listed
-        answer, = await self._answers([question], banks)
-        return answer.text, await self._noted(request, bank, day, rows, names)
+        told, _ = await self._answered(self.keeper.later(question), banks)
+        return await told.whole(), await self._noted(request, bank, day, rows, names)
 
     async def _noted(self, request: web.Request, bank: str, day: str, rows: bytes,
                      names: list[tuple[str, str]]) -> list[str]:

@@ -16,6 +16,7 @@ from aiohttp import web
 from . import digests, limits
 from .access import NOBODY
 from .addresses import ADDRESSES, TRANSFERS, Address
+from .beside import Data, Told
 from .connections import Connections, Handler as Connected
 from .costs import Accounts, Room
 from .faults import Busy, Fault, Forbidden, OtherStatus, TooLong, body_of, fault_of, headers_of
@@ -204,31 +205,37 @@ class Front:
             body += part
         return bytes(body)
 
-    async def sent(self, request: web.Request, data: bytearray | bytes, kind: str = TEXT, room: Room | None = None,
-                   headers: dict[str, str] | None = None) -> web.StreamResponse:
-        """Sends an answer, whose bytes take room. A client that does not take all of it in time is cut off."""
-        if len(data) <= limits.ANSWER_PIECE_BYTES:
-            return web.Response(body=bytes(data), content_type=kind, charset="utf-8", headers=headers)
-        if room is None:
-            return await self._sent(request, data, kind, headers or {})
-        with room.held(request["who"].name) as more:
-            more(len(data))
-            return await self._sent(request, data, kind, headers or {})
-
-    async def _sent(self, request: web.Request, data: bytes | bytearray, kind: str,
-                    headers: dict[str, str]) -> web.StreamResponse:
-        answer = web.StreamResponse(headers={"Content-Type": f"{kind}; charset=utf-8", "Content-Length": str(len(data)),
-                                             **headers})
-        try:
-            await asyncio.wait_for(self._send(answer, request, memoryview(data)),
-                                   self.parts.seconds + len(data) / limits.ANSWER_BYTES_A_SECOND)
-        except (asyncio.TimeoutError, ConnectionError):
-            if isinstance(request.protocol, Connected):
-                request.protocol.cut_off()
+    async def sent(self, request: web.Request, data: Data | Told, kind: str = TEXT,
+                   room: Room | None = None, headers: dict[str, str] | None = None) -> web.StreamResponse:
+        """Sends an answer, whose first part takes room, and what follows as it comes. Nothing is sent before there is a
+        part: without one it may be a fault. A client that does not take all of it in time is cut off."""
+        told = data if isinstance(data, Told) else Told.of(data)
+        async with contextlib.aclosing(told.read()) as parts:
+            first = await anext(parts, b"")
+            size = told.size if told.over.is_set() else None
+            if size == len(first) <= limits.ANSWER_PIECE_BYTES:
+                return web.Response(body=bytes(first), content_type=kind, charset="utf-8", headers=headers)
+            answer = web.StreamResponse(headers={"Content-Type": f"{kind}; charset=utf-8", **(headers or {})})
+            answer.content_length = size
+            with room.held(request["who"].name) if room else contextlib.nullcontext(lambda size: None) as more:
+                more(len(first))
+                try:
+                    await self._send(answer, request, first, parts)
+                except (asyncio.TimeoutError, ConnectionError, Fault):
+                    if isinstance(request.protocol, Connected):
+                        request.protocol.cut_off()
         return answer
 
-    async def _send(self, answer: web.StreamResponse, request: web.Request, view: memoryview) -> None:
-        await answer.prepare(request)
-        for place in range(0, len(view), limits.ANSWER_PIECE_BYTES):
-            await answer.write(view[place:place + limits.ANSWER_PIECE_BYTES])
-        await answer.write_eof()
+    async def _send(self, answer: web.StreamResponse, request: web.Request, part: Data,
+                    parts: AsyncIterator[Data]) -> None:
+        """Sends a part and those that follow. What a client leaves of its time for a part it has for the next ones."""
+        left = self.parts.seconds
+        while part:
+            began, left = time.monotonic(), left + len(part) / limits.ANSWER_BYTES_A_SECOND
+            async with asyncio.timeout(left):
+                await answer.prepare(request)
+                for place in range(0, len(part), limits.ANSWER_PIECE_BYTES):
+                    await answer.write(memoryview(part)[place:place + limits.ANSWER_PIECE_BYTES])
+            left -= time.monotonic() - began
+            part = await anext(parts, b"")
+        await asyncio.wait_for(answer.write_eof(), self.parts.seconds)

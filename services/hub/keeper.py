@@ -6,12 +6,14 @@ import asyncio
 import contextlib
 from typing import Collection, Iterable
 from . import limits
+from .beside import Told
 from .changes import CHANGES, Watch
 from .digests import Digest
 from .faults import Busy, Refused, Unable
 from .files import Files
 from .holding import Holding
 from .marks import Marks
+from .process import NUMBERED, TOO_MANY_OPEN
 from .rounds import Rounds
 from .starts import Core, Starts
 from .vectors import origin_in
@@ -95,6 +97,17 @@ class Keeper:
         """The texts that answer some questions, each with whether it is cut, all of what is held at one moment."""
         work = await self.queue.ask("ask", questions, most)
         return [answer_of(reply, work) for reply in work.replies]
+
+    async def later(self, question: bytes, *short: bytes) -> tuple[Told, list[Answer]]:
+        """The answer to a question as it comes, while the site goes on. Beside it the texts that answer short ones, of
+        what is held at the same moment."""
+        work = await self.queue.ask("ask", [NUMBERED + question[len(b"? "):], *short], limits.TEXT_MOST_BYTES)
+        later, *replies = work.replies
+        if later.rest == TOO_MANY_OPEN:
+            raise Busy()
+        if later.told is None:
+            raise Refused(later.rest)
+        return later.told, [answer_of(reply, work) for reply in replies]
 
     # ---- digests
 

@@ -1,12 +1,15 @@
-"""process.py: the process `sct_sites serve` of a site: requests go in, and replies come back in their order.
+"""process.py: the process `sct_sites serve` of a site: requests go in, and replies come back in their order. Between
+them come the answers to numbered questions, part by part (beside.py).
 
 The process keeps the journal. What has a reply is on the disk. What has none is unknown when the process ends, and may
 be sent again.
 """
 from __future__ import annotations
 import asyncio
+import collections
 import contextlib
 import ctypes
+import itertools
 import os
 import re
 import signal
@@ -14,19 +17,25 @@ import subprocess
 import time
 from typing import Callable, NamedTuple
 from . import limits
+from .beside import Told
+from .faults import Refused, Unable
 from .files import Wrong
 
 WRONG_JOURNAL, OTHER_SITE, HELD, DISK = 75, 76, 77, 78
 MEMORY_STATUS, MEMORY = 3, 65
+NUMBERED = b"?N "  # how a question begins that gets its number when it is sent
+TOO_MANY_OPEN = b"80"  # why a numbered question is refused while too many are open
+PART, END, FAILED = b"PART", b"END", b"FAILED"  # words that are no replies
 
 
 # a reply: its word, the rest of its line, and the text that follows it or None; `is_cut` says that the text is only a
-# beginning
+# beginning. After LATER the text is what comes
 class Reply(NamedTuple):
     word: bytes
     rest: bytes
     text: bytearray | None
     is_cut: bool
+    told: Told | None = None
 
 
 class Ended(Exception):
@@ -81,10 +90,15 @@ class Program:
 class Process:
     """The process of a site. `vector` is what it held when it was ready."""
     since: float | None  # since when it owes a reply and says nothing
+    wanted: collections.deque[int]  # how much of its text is wanted, of each request without a reply
+    came: asyncio.Queue[Reply | Ended]
+    open: dict[bytes, Told]  # the answers that come, by their numbers
+    hearing: asyncio.Task[None]
 
     def __init__(self, child: asyncio.subprocess.Process) -> None:
         self.child, self.said, self.vector, self.since = child, b"", b"", None
         self.size = 0  # bytes of the requests under way
+        self.wanted, self.came, self.open = collections.deque(), asyncio.Queue(), {}
         self.requests, self.replies, self.errors = pipes_of(child)
         self.listening = asyncio.ensure_future(self._listen())
         self.closing = asyncio.ensure_future(self._closed())
@@ -114,6 +128,7 @@ class Process:
             await process.kill()
             raise
         process.vector = ready[len(b"READY "):]
+        process.hearing = asyncio.ensure_future(process._hear())
         return process
 
     async def _listen(self) -> None:
@@ -150,7 +165,7 @@ class Process:
 
     def _heard(self) -> None:
         """It said something."""
-        self.since = time.monotonic()
+        self.since = self.since and time.monotonic()
 
     async def _line(self) -> bytes:
         try:
@@ -177,25 +192,64 @@ class Process:
             raise await self.ended("a text of its reply has another length than it said")
         return text
 
-    async def reply(self, most: int) -> Reply:
+    async def _reply(self, word: bytes, rest: bytes) -> Reply:
         """The next reply."""
-        word, _, rest = (await self._line()).partition(b" ")
+        if not self.wanted or word == b"TEXT" and not rest.isdigit():
+            raise await self.ended(f"it said {word[:80]!r} {rest[:80]!r}")
+        most = self.wanted.popleft()
         if word != b"TEXT":
-            return Reply(word, rest, None, False)
-        if not rest.isdigit():
-            raise await self.ended(f"it said TEXT {rest[:80]!r}")
+            return Reply(word, rest, None, False, self.open.get(rest) if word == b"LATER" else None)
         text = await self._text(int(rest), most)
         return Reply(word, b"", text, int(rest) > len(text))
 
+    async def _tell(self, word: bytes, number: bytes, size: bytes) -> None:
+        """Hands on what came of an answer."""
+        told = self.open.get(number)
+        if told is None or word != END and not size.isdigit():
+            raise await self.ended(f"it said {word!r} {number[:80]!r} {size[:80]!r}")
+        if word == PART:
+            return told.part(await self._text(int(size), int(size)))
+        told.end(None if word == END else Refused(size))
+        del self.open[number]
+
+    async def _hear(self) -> None:
+        """Hands on what it says, until it ends: replies in their order, and answers by their numbers."""
+        try:
+            while True:
+                word, _, rest = (await self._line()).partition(b" ")
+                if word in (PART, END, FAILED):
+                    await self._tell(word, *rest.partition(b" ")[::2])
+                else:
+                    self.came.put_nowait(await self._reply(word, rest))
+        except Ended as end:
+            for told in self.open.values():
+                told.end(Unable(f"the process ended: {end}"))
+            self.came.put_nowait(end)
+
+    def _as_sent(self, request: bytes) -> tuple[bytes, bytes]:
+        """The number that a request gets, or nothing, and the request with it."""
+        if not request.startswith(NUMBERED):
+            return b"", request
+        number = next(name for name in map(b"%d".__mod__, itertools.count(1)) if name not in self.open)
+        self.open[number] = Told()
+        return number, b"?%s %s" % (number, request[len(NUMBERED):])
+
     async def ask(self, requests: list[tuple[bytes, int]], settle: Callable[[int, Reply], object]) -> None:
         """Sends requests, each with the most bytes of its text that are wanted, and hands each reply on as it comes."""
-        data = b"".join(request + b"\n" for request, _ in requests)
+        sent = [self._as_sent(request) for request, _ in requests]
+        self.wanted.extend(most for _, most in requests)
+        data = b"".join(line + b"\n" for _, line in sent)
         sending = asyncio.ensure_future(self._send(data))
-        self.size = len(data)
-        self._heard()
+        self.size, self.since = len(data), time.monotonic()
         try:
-            for place, (_, most) in enumerate(requests):
-                settle(place, await self.reply(most))
+            for place, (number, _) in enumerate(sent):
+                reply = await self.came.get()
+                if isinstance(reply, Ended):
+                    self.came.put_nowait(reply)  # for who asks next
+                    raise reply
+                if number and reply.told is None:
+                    del self.open[number]
+                settle(place, reply)
         finally:
             self.since = None
             sending.cancel()
@@ -215,6 +269,7 @@ class Process:
             await asyncio.wait_for(self.child.wait(), limits.PROCESS_END_SECONDS)
         except asyncio.TimeoutError:
             await self.kill()
+        await asyncio.wait([self.hearing], timeout=1)
         self.listening.cancel()
 
     def stop(self) -> None:

@@ -1,27 +1,27 @@
-"""texts.py: the long texts of a site. A text is made once for a vector, and all who ask for it share it.
+"""texts.py: the complete texts of a site. Each is the answer to a numbered question, and comes while the site goes on.
+All who ask for a text share it, until the vector has grown or its first part is gone.
 
-A text is kept as long as somebody reads it, and a short one until the vector has grown. Not more than a few long ones
-are there at a time: who asks for one more gets an older one, with its vector. Texts are made in a fifth of the time at
-most, so that posts do not wait for them.
+Of each name one is made at a time. Not more than a few long ones are there.
 """
 from __future__ import annotations
 import asyncio
 import hashlib
-import time
-import weakref
-from typing import Any
+from typing import NamedTuple
 from . import limits
+from .beside import Told
 from .digests import digests_in, head_of
 from .faults import Busy
 from .keeper import Keeper
 from .starts import DIGESTS
 
 
-class Text:
-    """A text, its vector, and the head with the digests of what was held when it was made."""
-
-    def __init__(self, data: bytes, vector: str, shown: str, mark: str) -> None:
-        self.data, self.vector, self.shown, self.mark = data, vector, shown, mark
+class Text(NamedTuple):
+    """A text that comes, the vector and the head with the digests of what was held when it was asked for, and its
+    mark."""
+    told: Told
+    vector: str
+    shown: str
+    mark: str
 
 
 def mark_of(name: str, group: int, held: str) -> str:
@@ -31,20 +31,12 @@ def mark_of(name: str, group: int, held: str) -> str:
 
 
 class Texts:
-    last: dict[str, Any]  # the last text of each name: itself, or a reference to it if it is long
-    making: dict[str, Any]  # the text of a name that is being made
-    there: weakref.WeakSet[Any]
-    next_at: dict[str, float]
+    last: dict[str, Text]  # what was asked for last, by name
+    asking: dict[str, asyncio.Future[Text]]
+    there: list[Told]  # those that somebody reads
 
     def __init__(self, keeper: Keeper) -> None:
-        self.keeper = keeper
-        self.last = {}  # the last text of each name: itself, or a reference to it if it is long
-        self.making = {}  # the text of a name that is being made
-        self.there, self.next_at = weakref.WeakSet(), {}
-
-    def last_text(self, name: str) -> Text | None:
-        last = self.last.get(name)
-        return last() if isinstance(last, weakref.ref) else last
+        self.keeper, self.last, self.asking, self.there = keeper, {}, {}, []
 
     def now(self, name: str) -> str | None:
         """The mark of the text as it is now. None while the digests of what came last are not known yet."""
@@ -52,37 +44,30 @@ class Texts:
         return None if held is None else mark_of(name, self.keeper.group, held)
 
     async def get(self, name: str) -> Text:
-        """The text of a name, for the vector as it is now or was a moment ago."""
+        """The text of a name, for the vector as it is now or was a moment ago. Busy if too many long ones are there."""
         while True:
-            text = self.last_text(name)
-            if text is not None and text.vector == self.keeper.holding.vector:
-                return text
-            if sum(len(one.data) > limits.TEXT_KEPT_BYTES for one in self.there) >= limits.TEXTS_MOST_THERE:
-                if text is None:
-                    raise Busy()
-                return text
-            pause = self.next_at.get(name, 0) - time.monotonic()
-            if pause > limits.TEXT_MOST_PAUSE_SECONDS:
-                if text is None:
-                    raise Busy()
-                return text
-            if pause > 0:
-                await asyncio.sleep(pause)
+            last = self.last.get(name)
+            if last and last.told.is_whole() and last.vector == self.keeper.holding.vector:
+                return last
+            if last and not last.told.over.is_set():
+                await last.told.over.wait()
                 continue
-            if name not in self.making:
-                self.making[name] = asyncio.ensure_future(self._made(name))
-            return await asyncio.shield(self.making[name])
+            self.there = [told for told in self.there if told.readers or not told.over.is_set()]
+            if sum(told.size > limits.TEXT_KEPT_BYTES for told in self.there) >= limits.TEXTS_MOST_THERE:
+                raise Busy()
+            if name not in self.asking:
+                self.asking[name] = asyncio.ensure_future(self._asked(name))
+            text = await asyncio.shield(self.asking[name])
+            if text.told.first:
+                return text
 
-    async def _made(self, name: str) -> Text:
+    async def _asked(self, name: str) -> Text:
         try:
-            began = time.monotonic()
-            answer, digests = await self.keeper.ask_all([f"? {name}".encode(), DIGESTS])
+            told, (digests,) = await self.keeper.later(f"? {name}".encode(), DIGESTS)
             held = digests_in(digests.text.decode())
-            mark = mark_of(name, self.keeper.group, head_of(held))
-            data, text = answer.text, Text(answer.text, answer.vector, head_of(held[:limits.DIGESTS_MOST_SHOWN]), mark)
-            self.next_at[name] = time.monotonic() + limits.TEXT_PAUSE_TIMES * (time.monotonic() - began)
-            self.there.add(text)
-            self.last[name] = text if len(data) <= limits.TEXT_KEPT_BYTES else weakref.ref(text)
-            return text
+            self.last[name] = Text(told, digests.vector, head_of(held[:limits.DIGESTS_MOST_SHOWN]),
+                                   mark_of(name, self.keeper.group, head_of(held)))
+            self.there.append(told)
+            return self.last[name]
         finally:
-            del self.making[name]
+            del self.asking[name]

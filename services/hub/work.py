@@ -123,7 +123,7 @@ class Queue:
 
 def as_message(line: bytes) -> bytes:
     """A line as a request that is read as a message, whatever it begins with. A line of blanks is none."""
-    return b" " + line if line.startswith((b"delta ", b"? ", b"as ")) else line
+    return b" " + line if line.startswith((b"delta ", b"?", b"as ")) else line
 
 
 def listed(banks: Collection[str]) -> bytes:

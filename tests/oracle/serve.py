@@ -49,6 +49,14 @@ class Serving:
         self.site = self.handle.site
         self.filed = Filed(self.site)
 
+    def copy(self):
+        """What answers as this site does now, whatever comes later."""
+        its = Serving(self.site.own, self.site.group)
+        its.handle.hold(self.site.copy(), [], True)
+        its.site = its.handle.site
+        its.filed = Filed(its.site)
+        return its
+
     def ready(self):
         return f"READY {self.site.vector_text()}\n".encode()
 
@@ -221,9 +229,9 @@ def kept_of(line):
     return parted(line)[1] if line.startswith(AS) else line
 
 
-def rounds_of(lines):
+def rounds_of(lines, ends_round):
     """The lines in rounds: a question is a round of its own."""
-    for asks, this in itertools.groupby(lines, is_question):
+    for asks, this in itertools.groupby(lines, ends_round):
         yield from ([line] for line in this) if asks else [list(this)]
 
 
@@ -343,8 +351,8 @@ def written(text):
             text = text[os.write(1, text):]
 
 
-def requests():
-    """The whole lines that one read ended, again and again until the input ends."""
+def requests(ends_round=is_question):
+    """The whole lines that one read ended, in rounds, again and again until the input ends."""
     pending = bytearray()
     while True:
         with failing_by(62):
@@ -358,7 +366,7 @@ def requests():
             raise Fault(60)
         if not piece:
             return
-        yield from rounds_of(ended)
+        yield from rounds_of(ended, ends_round)
 
 
 def replied(serving, journal, lines):
@@ -369,8 +377,8 @@ def replied(serving, journal, lines):
     return b"".join(reply for reply, _ in both)
 
 
-def life(words):
-    """Serves a site until the input ends."""
+def begun(words):
+    """A site that is ready, and its journal."""
     command, *words = words or [""]
     words = exchange.plain(words)
     if command != "serve" or len(words) != 3:
@@ -382,13 +390,19 @@ def life(words):
     serving = Serving(own, group)
     serving.open(journal.lines)
     written(serving.ready())
+    return serving, journal
+
+
+def life(words):
+    """Serves a site until the input ends."""
+    serving, journal = begun(words)
     for lines in requests():
         written(replied(serving, journal, lines))
 
 
-def main():
+def main(lives=life):
     try:
-        life(sys.argv[1:])
+        lives(sys.argv[1:])
     except Fault as fault:
         end_with("", f"fault {fault}\n", 2)
 

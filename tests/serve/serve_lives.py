@@ -20,6 +20,7 @@ written before the second sync.
 import argparse
 import collections
 import concurrent.futures
+import math
 import os
 import pathlib
 import subprocess
@@ -52,10 +53,11 @@ def must(is_right, what):
 
 class Lives:
     """The lives of one site."""
+    shares, to_meet = None, TO_MEET  # the shares of its requests are those of streams.py
 
     def __init__(self, r, program, folder):
         self.r, self.program, self.path = r, program, pathlib.Path(folder, "journal")
-        self.requests, self.unanswered, self.numbers = Requests(r, OWN, GROUP), [], {}
+        self.requests, self.unanswered, self.numbers = Requests(r, OWN, GROUP, self.shares), [], {}
         self.met = collections.Counter()
         self.lines = []  # what the journal keeps behind its header
 
@@ -111,12 +113,17 @@ class Lives:
                 must(found == serving.reply(line)[0], f"{line!r}: {found!r}")
             lines = self.unanswered + [self.requests.made() for _ in range(self.r.randint(1, 30))]
             self.met["sent again"] += bool(self.unanswered)
-            replies = self.stream(process, lines)
+            replied, both = self.replied(process, serving, lines)
+        self.check([line for line, (_, brings) in zip(lines, both) if brings],
+                   [line for line, (_, brings) in zip(lines[:replied], both) if brings])
+        self.unanswered = lines[replied:][:40]
+
+    def replied(self, process, serving, lines):
+        """How many of some requests had their replies, which must be right, and what each replies and brings."""
+        replies = self.stream(process, lines)
         both = [serving.reply(line) for line in lines]
         self.compare(lines, replies, [text for text, _ in both])
-        self.check([line for line, (_, brings) in zip(lines, both) if brings],
-                   [line for line, (_, brings) in zip(lines[:len(replies)], both) if brings])
-        self.unanswered = lines[len(replies):][:40]
+        return len(replies), both
 
     def stream(self, process, lines):
         """The replies to some requests until the end, which comes at any moment, or once all is replied: in peace, or
@@ -127,7 +134,7 @@ class Lives:
         (end,), latest = (r.choices(["in peace", "at rest", "at a moment"], [15, 10, 75]),
                           time.monotonic() + r.uniform(0, r.choice(SPANS)))
         until = time.monotonic() + LATEST
-        while len(found) < len(lines) and (end != "at a moment" or time.monotonic() < latest):
+        while self.many(found) < len(lines) and (end != "at a moment" or time.monotonic() < latest):
             process.step(0.001, r.randint(1, most))
             replies, rest = replies_in(process.text)
             found += replies
@@ -136,18 +143,28 @@ class Lives:
         if end == "in peace":
             self.met["closed in peace"] += 1
             answer = process.end()
-            must(answer == (b"", b"", 0), f"at the end of its input: {answer}")
-            return found
+            more, rest = replies_in(answer.text)
+            must((rest, answer.errors, answer.status) == (b"", b"", 0), f"at the end of its input: {rest!r}, {answer}")
+            return found + more
         found += process.kill()
-        self.met["killed at rest" if len(found) == len(lines) else "killed with requests without a reply"] += 1
+        self.met["killed at rest" if self.many(found) == len(lines) else "killed with requests without a reply"] += 1
         return found
 
+    def many(self, found):
+        """How many of what came are replies to requests."""
+        return len(found)
+
     def compare(self, lines, replies, wanted):
+        must(len(replies) <= len(lines), f"{replies[len(lines):]} after the last reply")
         for line, found, right in zip(lines, replies, wanted):
             must(found == right, f"{line!r}: {found!r} in place of {right!r}")
-            if found.startswith(b"TAKEN "):
-                number = int(found.split()[1])
-                must(self.numbers.setdefault(number, line) == line, f"the number {number} was told of two lines")
+            self.note(line, found)
+
+    def note(self, line, found):
+        """Keeps the number of a line, which no other line may have."""
+        if found.startswith(b"TAKEN "):
+            number = int(found.split()[1])
+            must(self.numbers.setdefault(number, line) == line, f"the number {number} was told of two lines")
 
     def check(self, brought, lasting):
         """What the journal must keep: what it kept, what the replied requests brought, and no more than all requests
@@ -166,21 +183,21 @@ class Lives:
         self.lines = found
 
 
-def lives(program, asked, many):
-    """How many lives were right, and what failed."""
-    right = 0
+def lives(kind, program, asked, many, seconds=math.inf):
+    """How many lives of a site were right, which begin in some seconds, and what failed."""
+    right, latest = 0, time.monotonic() + seconds
     with tempfile.TemporaryDirectory() as folder:
-        site = Lives(asked.source("lives"), program, folder)
+        site = kind(asked.source("lives"), program, folder)
         try:
-            while right < many:
+            while right < many and time.monotonic() < latest:
                 site.live()
                 right += 1
         except (Wrong, Ended) as wrong:
             print(f"life {right + 1}: DIFFERS: {wrong}"[:3000], flush=True)
             return right, 1
     print(f"{right} lives, {len(site.lines)} lines kept: " + ", ".join(f"{thing} {site.met[thing]}"
-                                                                       for thing in TO_MEET), flush=True)
-    missing = [thing for thing in TO_MEET if not site.met[thing]] if many >= LIVES else []
+                                                                       for thing in site.to_meet), flush=True)
+    missing = [thing for thing in site.to_meet if not site.met[thing]] if right >= LIVES else []
     if missing:
         print(f"not met: {missing}", flush=True)
     return right, len(missing)
@@ -296,7 +313,7 @@ def main():
     print(f"python3 -m tests.serve.serve_lives {' '.join(asked.words())}", flush=True)
     with tempfile.TemporaryDirectory() as folder:
         right = [cuts(program, folder), *stops(program, folder)]
-    harness.end_with([(sum(right), len(right) - sum(right)), lives(program, asked, asked.many(LIVES))])
+    harness.end_with([(sum(right), len(right) - sum(right)), lives(Lives, program, asked, asked.many(LIVES))])
 
 
 if __name__ == "__main__":

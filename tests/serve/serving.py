@@ -17,12 +17,12 @@ class Ended(Exception):
 
 
 def reply_end(text: Any, at: int = 0) -> Any:
-    """Where the reply ends that begins here, or None if it is not whole."""
+    """Where the reply, or the part of an answer, ends that begins here, or None if it is not whole."""
     feed = text.find(b"\n", at)
     if feed < 0:
         return None
     line = bytes(text[at:feed])
-    end = feed + 1 + (int(line[5:]) + 1 if line.startswith(b"TEXT ") else 0)
+    end = feed + 1 + (int(line.split()[-1]) + 1 if line.startswith((b"TEXT ", b"PART ")) else 0)
     return end if end <= len(text) else None
 
 

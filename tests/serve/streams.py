@@ -1,5 +1,5 @@
 """streams.py: made-up requests to a site that lasts: messages that meet, repeats, refused lines, deltas of peers,
-questions."""
+questions, also numbered ones."""
 from bench.generate import samples
 from tests import inputs
 from tests.oracle import exchange
@@ -17,9 +17,20 @@ WRONG_QUESTIONS = [
     b"? entries 1 0", b"? entries 1 0 ", b"? entries 0 0 1", b"? entries 1 00 1", b"? entries 1 0 67108864",
     b"? digest", b"? digest 1", b"? digest 0 0", b"? digest 1 00", b"? digest 1 99999", b"? digests 1"]
 REPORT = b"? report BANKDEFF 2024-05-02 DbtrAgt,TxId,Amt,Sts\tBANKDEFF,T1,1.00,ACCEPTED\tBANKDEFF,T2,2.00,PENDING\t"
+LIST = REPORT.partition(b" ")[2]
+# numbered questions that are refused at once, and lines that are none
+WRONG_NUMBERED = [
+    b"?1 ", b"?1  status", b"?1 Status", b"?1 status ", b"?1 vector", b"?1 changes", b"?1 evaluate", b"?1 digests",
+    b"?1 transfer BANKDEFF T1", b"?1 messages BANKDEFF T1", b"?1 bank BANKDEFF", b"?1 entries 1 0 9", b"?1 cut",
+    b"?1 cut 1:x", b"?1 cut - -", b"?1 report BANKDEFF 2024-05-02", b"?1 report x 2024-05-02 DbtrAgt",
+    b"?1 report BANKDEFF 2024-5-2 DbtrAgt", b"?1 report BANKDEFF 2024-05-02 DbtrAgt", b"?1 of", b"?1 of BANKDEFF",
+    b"?1 of BANKDEFF status", b"?1 of BANKDEFF bank BANKDEFF", b"?1 of BANKDEFF transfer BANKDEFF T1",
+    b"?1 of x " + LIST, b"?1 of BANQFRPP " + LIST, b"?1 of BANKDEFF report BANKDEFF", b"?1 ?2 status", b"?1 as status",
+    b"?0 status", b"?01 status", b"?1234567890 status", b"?1", b"?1\tstatus", b"?x status", b"?+1 status", b"?1status"]
 SHARES = {"instruction": 50, "confirmation": 22, "contradiction": 3, "repeat": 9, "refused": 6,
           "blank": 3, "delta": 8, "question": 4,
           "wrong_question": 1}
+WITH_NUMBERS = {**SHARES, "numbered": 20, "wrong_numbered": 3}
 
 
 class Peer:
@@ -91,12 +102,24 @@ class Requests:
 
     def question(self):
         number = self.r.randint(1, self.next)
-        origins = sorted(self.r.sample(range(1, self.group + 2), self.r.randint(0, 2)))
-        have = ",".join(f"{origin}:{self.r.randint(0, self.next)}" for origin in origins) or "-"
         most = self.r.choice([1, 600, 3000, self.r.randint(1, 20_000), 67_108_863])
         entries = b"? entries %d %d %d" % (self.r.randint(1, self.group + 1), self.r.randint(0, self.next), most)
-        return self.r.choice([b"? vector", b"? cut %s" % have.encode(), entries, b"? status", b"? totals",
+        return self.r.choice([b"? vector", b"? cut %s" % self.have(), entries, b"? status", b"? totals",
                               b"? archive", b"? contradictions",
                               b"? evaluate", b"? transfer BANKDEFF T%d" % number,
                               b"? messages BANKDEFFXXX T%d" % number,
                               b"? bank BANQFRPP", REPORT])
+
+    def have(self):
+        """A vector that counts some of what the site has, or more."""
+        origins = sorted(self.r.sample(range(1, self.group + 2), self.r.randint(0, 2)))
+        return (",".join(f"{origin}:{self.r.randint(0, self.next)}" for origin in origins) or "-").encode()
+
+    def numbered(self):
+        """A numbered question. It has one of a few numbers, so that some are open."""
+        question = self.r.choice([b"status", b"totals", b"archive", b"contradictions", b"cut " + self.have(), LIST,
+                                  b"of BANKDEFF,BANQFRPP " + LIST])
+        return b"?%d %s" % (self.r.choice([1, 2, 3, 40, 999_999_999]), question)
+
+    def wrong_numbered(self):
+        return self.r.choice(WRONG_NUMBERED)
