@@ -12,8 +12,8 @@ numbers, has failed at least once. At the end follows again what differed in eac
 is 'N passed, M failed' of all checks. The exit status is 0 if none has failed. harness.py has the variables that name
 other programs than those of the gate.
 
---seed, --cases and --long are handed to the property checks (tests/property/cases.py), and to c_calls, serve_lives and
-serve_hub. A check is skipped, and has not passed, if the machine lacks a Debian package that it needs. Some skip a
+--seed, --cases and --long are handed to the property checks (tests/property/cases.py), and to c_calls, serve_lives,
+serve_beside and serve_hub. A check is skipped, and has not passed, if the machine lacks a Debian package that it needs. Some skip a
 part, or all if the library or the page is not made: a line that begins with 'skipped' says so. --install installs all
 such packages first. With --no-skips what is skipped has failed.
 
@@ -98,6 +98,8 @@ CHECKS = {
         "serve_lives":
             "kills a site 200 times on one journal, cuts its last batch after each byte, and stops it at each call",
         "serve_troubles": "brings a site that lasts into trouble: files, disks, readers, requests",
+        "serve_beside":
+            "asks numbered questions beside requests, ends inputs while some are open, and kills a site 200 times",
         "serve_hub": "kills three sites that last, while deltas are late, lost, repeated and in any order",
     },
     "hub": {
@@ -109,6 +111,7 @@ CHECKS = {
         "xml": "reads messages in XML, right ones and those that attack",
         "attackers": "does at sites with TLS and roles what each who may do, and what it may not",
         "rights": "ends rights while sites run, opens their files to others, and holds their files",
+        "beside": "posts at sites while complete texts and reports come, and ends their processes meanwhile",
         "harms": "has clients harm others at sites with TLS and roles, and looks at what the others are answered",
         "kills": "kills three sites of services/hub, and their processes, while clients post",
         "troubles": "posts examples at sites of services/hub, and fills their disks",
@@ -177,7 +180,7 @@ PACKAGES.update({name: ["python3-aiohttp"] for name in ["troubles", "processes",
                                                         "forks", "rolls", "mirrors", "flips", "evidence"]})
 PACKAGES["release"], PACKAGES["clocks"] = ["gcc", "python3-aiohttp"], ["python3-aiohttp", "gcc", "openssl"]
 PACKAGES.update({name: ["python3-aiohttp", "openssl"]
-                 for name in ["clients", "kills", "fires", "attackers", "harms", "rights", "waits"]})
+                 for name in ["beside", "clients", "kills", "fires", "attackers", "harms", "rights", "waits"]})
 PACKAGES["packages"] = ["gcc", "python3-aiohttp", "lintian", "systemd", "adduser", "nginx-light",
                         "libnginx-mod-stream", "prometheus", "openssl",
                         "pkg-config", "man-db"]
@@ -204,7 +207,7 @@ SECONDS = 1500  # a check that runs for longer is stopped
 LANES = min(4, len(os.sched_getaffinity(0)))  # checks that run side by side
 FIRST = ["parts", "rolls"]  # the longest checks, which begin first
 SKIPPED = "skipped: "
-SEEDED = ["c_calls", "serve_lives", "serve_hub"]  # checks that make up cases as the property checks do
+SEEDED = ["c_calls", "serve_lives", "serve_beside", "serve_hub"]  # checks that make up cases as the property checks do
 VARIABLES = ["SCT_SITES", "SCT_TEST_DRIVER", "SCT_C", "NILUPPANG_LIBRARY"]
 
 

@@ -10,14 +10,16 @@ import sys
 import tempfile
 import time
 import types
+import weakref
 from tests import harness, inputs
 from tests.harness import SERVICES, reported
+from tests.hub import sites
 sys.path.insert(0, str(SERVICES))
-from hub import changes, clock, costs, digests, errors, events, faults, limits, opening, texts, vectors, work
-from hub.faults import BadText, Busy, Refused, TooMany
+from hub import beside, changes, clock, costs, digests, errors, events, faults, limits, opening, texts, vectors, work
+from hub.faults import BadText, Busy, Refused, TooMany, Unable
 from hub.files import Files, Wrong
 from hub.keeper import Keeper
-from hub.process import Process, Reply
+from hub.process import Ended, Process, Reply
 from hub.starts import DIGESTS, EVALUATE
 from hub.work import Answer, Outcome
 
@@ -187,23 +189,120 @@ def marks_events():
     yield "odd marks and old ones load again", all(b"event: reset" in since(mark)[0] for mark in resets)
 
 
+# ---- answers that come part by part
+
+async def told_of(parts):
+    """An answer, of which some parts came."""
+    its = beside.Told()
+    for part in parts:
+        its.part(part)
+    return its
+
+
+async def answers():
+    its = await told_of([b"a"])
+    first, second = its.read(), its.read()
+    yield "a part is read when it is there", await anext(first) == b"a" and not its.over.is_set()
+    late = asyncio.ensure_future(anext(first))
+    await asyncio.sleep(0)
+    is_late = not late.done()
+    its.part(b"b")
+    yield "and the next one when it comes", is_late and await late == b"b"
+    its.end()
+    yield "others read the same", b"".join([part async for part in second]) == await its.whole() == b"ab"
+    its = await told_of([b"a"])
+    its.end(Refused(b"65"))
+    found = await asyncio.gather(its.whole(), its.whole(), return_exceptions=True)
+    yield "one that fails says so to all, and is not shared", [one.number for one in found] == [
+        65, 65] and not its.is_whole()
+    its, seen = beside.Told(), []
+
+    class Part(bytearray):
+        """A part that can be seen to be gone."""
+    for _ in range(6):
+        part = Part(8 << 20)
+        seen.append(weakref.ref(part))
+        its.part(part)
+        del part
+    yield "what nobody reads yet is there", all(one() is not None for one in seen) and its.is_whole()
+    reading = its.read()
+    for _ in range(4):
+        await anext(reading)
+    yield "of a long one the parts are gone that were read", [one() is None for one in seen] == [True] * 3 + [False] * 3
+    yield "and no one else reads it", not its.is_whole() and isinstance(
+        (await asyncio.gather(its.whole(), return_exceptions=True))[0], Busy)
+    await reading.aclose()
+    yield "who leaves is counted no more", its.readers == 0
+
+
+# a process that replies as it is told: after `?N` a question comes a text that is written then
+SAYS = """
+import sys
+print("READY -", flush=True)
+for line in sys.stdin:
+    number, _, text = line.strip()[1:].partition(" ")
+    print(text.replace("#", number).replace("|", chr(10)), flush=True)
+"""
+
+
+async def says(*texts):
+    """A process, and what it replies to questions, each with a text that it says then."""
+    its, found = await Process.started([sys.executable, "-c", SAYS]), []
+    await asyncio.wait_for(its.ask([(b"?N " + text if text.startswith(b"LATER") else b"? " + text, 1 << 20)
+                                    for text in texts], lambda _, reply: found.append(reply)), sites.LATEST)
+    return its, found
+
+
+async def hears():
+    its, (one, two, three) = await says(b"LATER #", b"LATER #|PART 1 2|ab", b"TEXT 1|x|PART 1 1|c|END 1|END 2")
+    yield "two numbers, and a reply between parts", (one.rest, two.rest, three.text) == (b"1", b"2", b"x")
+    yield "each answer has its parts", [await one.told.whole(), await two.told.whole()] == [b"abc", b""]
+    yield "an answer that ended is open no more", not its.open
+    found = []
+    await its.ask([(b"?N LATER #|FAILED 1 65", 9), (b"?N REFUSED 80", 9)], lambda _, reply: found.append(reply))
+    fault, = await asyncio.gather(found[0].told.whole(), return_exceptions=True)
+    yield "a failed answer and a refusal end a number, too", (fault.number, found[1].rest) == (65, b"80") and not its.open
+    found = []
+    await its.ask([(b"?N LATER #|PART 1 3|abc", 9)], lambda _, reply: found.append(reply))
+    its.stop()
+    fault, = await asyncio.gather(asyncio.wait_for(found[0].told.whole(), sites.LATEST), return_exceptions=True)
+    again, = await asyncio.gather(its.ask([(b"? vector", 9)], print), return_exceptions=True)
+    yield "a process that ends ends what is open, and who asks later is told", (
+        isinstance(fault, Unable) and isinstance(again, Ended))
+    for odd in b"PART 7 1|x", b"END 7", b"FAILED 7 65", b"OK|OK|OK", b"LATER #|PART 1 x":
+        its = await Process.started([sys.executable, "-c", SAYS])
+        wrong, = await asyncio.gather(asyncio.wait_for(its.ask([(b"?N " + odd, 9), (b"? OK", 9)], lambda *_: None), 60),
+                                      return_exceptions=True)
+        late, = await asyncio.gather(asyncio.wait_for(its.ask([(b"? OK", 9)], lambda *_: None), sites.LATEST),
+                                     return_exceptions=True)
+        yield f"a process that says {odd.decode()} is ended", isinstance(wrong if wrong else late, Ended)
+
+
+def hands_on_answers():
+    async def all_of():
+        return [one for each in (answers, hears) async for one in each()]
+    return asyncio.run(all_of())
+
+
 # ---- texts
 
 class Asked:
-    """In place of the queue of a site: it counts what it is asked, and takes a while."""
+    """In place of the queue of a site: it counts what it is asked, and the texts end when they are told to."""
     group = 64
 
-    def __init__(self, size, seconds=0.0):
-        self.vector, self.size, self.seconds, self.asked = "1:1", size, seconds, 0
+    def __init__(self, size, ends=True):
+        self.vector, self.size, self.ends, self.told = "1:1", size, ends, []
         self.holding = self
 
     def held(self):
         return f"{self.vector}:{'0' * 64}"
 
-    async def ask_all(self, questions):
-        self.asked += 1
-        await asyncio.sleep(self.seconds)
-        return [Answer(b"x" * self.size, False, self.vector), Answer(f"{self.held()}\n".encode(), False, self.vector)]
+    async def later(self, question, digests):
+        await asyncio.sleep(0)
+        self.told.append(await told_of([b"x" * self.size]))
+        if self.ends:
+            self.told[-1].end()
+        return self.told[-1], [Answer(f"{self.held()}\n".encode(), False, self.vector)]
 
 
 async def shares():
@@ -211,34 +310,40 @@ async def shares():
     its = texts.Texts(keeper)
     many = await asyncio.gather(*(its.get("status") for _ in range(50)))
     await its.get("status")
-    yield "a text is made once for a vector, however many ask", keeper.asked == 1 and len({id(one)
-                                                                                           for one in many}) == 1
+    yield "a text is made once for a vector, however many ask", len(keeper.told) == 1 and len({id(one.told)
+                                                                                              for one in many}) == 1
     before = its.now("status")
     keeper.vector = "1:2"
     fresh = await its.get("status")
-    yield "and anew for the next vector", keeper.asked == 2 and fresh.vector == "1:2" and its.now(
+    yield "and anew for the next vector", len(keeper.told) == 2 and fresh.vector == "1:2" and its.now(
         "status") == fresh.mark != before
     yield "texts of two names have two marks", its.now("status") != its.now("archive")
-    slow = Asked(100, 0.2)
-    its = texts.Texts(slow)
-    began = asyncio.get_running_loop().time()
-    for number in range(3):
-        slow.vector = f"1:{number}"
-        await its.get("archive")
-    yield "texts are made in a fifth of the time at most", asyncio.get_running_loop().time() - began > 2 * (
-        1 + limits.TEXT_PAUSE_TIMES) * 0.2
+    keeper = Asked(100, ends=False)
+    its = texts.Texts(keeper)
+    first = await its.get("status")
+    yield "a text that comes is shared", (await its.get("status")).told is first.told
+    keeper.vector = "1:2"
+    late = [asyncio.ensure_future(its.get("status")) for _ in range(5)]
+    other = await its.get("totals")
+    await asyncio.sleep(0.01)
+    yield "who asks after a message waits for its end, and not for that of another name", (
+        not any(one.done() for one in late) and len(keeper.told) == 2 and other.vector == "1:2")
+    first.told.end()
+    found = await asyncio.gather(*late)
+    yield "and gets one with the message", {one.vector for one in found} == {"1:2"} and len(keeper.told) == 3
+    found[0].told.end(Unable("gone"))
+    yield "a text that failed is not shared", (await its.get("status")).told is not found[0].told
     large = Asked(limits.TEXT_KEPT_BYTES + 1)
     its, held = texts.Texts(large), []
-    for number in range(limits.TEXTS_MOST_THERE + 3):
+    for number in range(limits.TEXTS_MOST_THERE):
         large.vector = f"1:{number}"
-        held.append(await its.get("archive"))
-    yield "of long texts a few are there at a time, and then an older one is given", len(
-        {id(one) for one in held}) == limits.TEXTS_MOST_THERE
-    held.clear()
-    await asyncio.sleep(0.01)
-    large.vector = "1:99"
-    yield "when nobody reads them they are gone", its.last_text("archive") is None and (
-        await its.get("archive")).vector == "1:99"
+        held.append((await its.get("archive")).told.read())
+        await anext(held[-1])
+    large.vector = "1:98"
+    busy, = await asyncio.gather(its.get("archive"), return_exceptions=True)
+    yield "of long texts a few are there at a time", isinstance(busy, Busy)
+    await held[0].aclose()
+    yield "when nobody reads one there is room for another", (await its.get("archive")).vector == "1:98"
 
 
 def shares_texts():
@@ -785,7 +890,7 @@ def answers_each_fault():
 
 def main():
     checks = [puts_words_beside_numbers, answers_each_fault, reads_digests, notes_digests,
-              ends_by_passing_time, says_how_far_a_start_is, reads_vectors, reads_heads, marks_events, shares_texts,
+              ends_by_passing_time, says_how_far_a_start_is, reads_vectors, reads_heads, marks_events, hands_on_answers, shares_texts,
               keeps_a_queue, counts_what_is_accepted, forgets_digests, follows_changes, gives_room, keeps_accounts,
               prices_posts, takes_turns, counts_often,
               looks_at_files, counts_entries, has_ports_alone]
