@@ -40,6 +40,7 @@ class ForDesk:
             if now and now in asked_for:
                 return web.Response(status=304, headers={"ETag": now, "Cache-Control": "no-cache"})
             text = await self.texts.get(name)
+            self.front.must_may(request)
             return await self.front.sent(request, text.told, headers={
                 "ETag": text.mark, "Cache-Control": "no-cache", "Niluppang-Vector": text.vector,
                 digests.SHOWN: text.shown})

@@ -103,10 +103,8 @@ class Keeper:
         what is held at the same moment."""
         work = await self.queue.ask("ask", [NUMBERED + question[len(b"? "):], *short], limits.TEXT_MOST_BYTES)
         later, *replies = work.replies
-        if later.rest == TOO_MANY_OPEN:
-            raise Busy()
         if later.told is None:
-            raise Refused(later.rest)
+            raise Busy() if later.rest == TOO_MANY_OPEN else Refused(later.rest)
         return later.told, [answer_of(reply, work) for reply in replies]
 
     # ---- digests

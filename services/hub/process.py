@@ -202,25 +202,20 @@ class Process:
         text = await self._text(int(rest), most)
         return Reply(word, b"", text, int(rest) > len(text))
 
-    async def _tell(self, word: bytes, number: bytes, size: bytes) -> None:
-        """Hands on what came of an answer."""
-        told = self.open.get(number)
-        if told is None or word != END and not size.isdigit():
-            raise await self.ended(f"it said {word!r} {number[:80]!r} {size[:80]!r}")
-        if word == PART:
-            return told.part(await self._text(int(size), int(size)))
-        told.end(None if word == END else Refused(size))
-        del self.open[number]
-
     async def _hear(self) -> None:
         """Hands on what it says, until it ends: replies in their order, and answers by their numbers."""
         try:
             while True:
                 word, _, rest = (await self._line()).partition(b" ")
-                if word in (PART, END, FAILED):
-                    await self._tell(word, *rest.partition(b" ")[::2])
-                else:
+                number, _, size = rest.partition(b" ")
+                if word not in (PART, END, FAILED):
                     self.came.put_nowait(await self._reply(word, rest))
+                elif number not in self.open or word != END and not size.isdigit():
+                    raise await self.ended(f"it said {word!r} {rest[:80]!r}")
+                elif word == PART:
+                    self.open[number].part(await self._text(int(size), int(size)))
+                else:
+                    self.open.pop(number).end(None if word == END else Refused(size))
         except Ended as end:
             for told in self.open.values():
                 told.end(Unable(f"the process ended: {end}"))
