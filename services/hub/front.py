@@ -212,6 +212,8 @@ class Front:
         told = data if isinstance(data, Told) else Told.of(data)
         async with contextlib.aclosing(told.read()) as parts:
             first = await anext(parts, b"")
+            if told.fault:
+                raise told.fault
             size = told.size if told.over.is_set() else None
             if size == len(first) <= limits.ANSWER_PIECE_BYTES:
                 return web.Response(body=bytes(first), content_type=kind, charset="utf-8", headers=headers)
