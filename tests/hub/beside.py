@@ -132,10 +132,10 @@ def reconciles(trial):
             (400, 48), 403)
 
 
-# a program that hands on what another one says, but for the archive: of it a file has what it says, after which it ends
-# if it does not say END or FAILED
+# a program that hands on what another one says, but for the archive: of it a file has what it says, with a pause for each
+# NUL. After that it ends, if it does not say END or FAILED
 BREAKING = """#!{python}
-import os, re, subprocess, sys, threading
+import os, re, subprocess, sys, threading, time
 if sys.argv[1] != "serve":
     os.execv({program!r}, [{program!r}, *sys.argv[1:]])
 child = subprocess.Popen([{program!r}, *sys.argv[1:]], stdin=subprocess.PIPE, stdout=subprocess.PIPE)
@@ -146,6 +146,16 @@ def hand_on():
             return
         sys.stdout.buffer.write(piece)
         sys.stdout.buffer.flush()
+def say(piece):
+    sys.stdout.buffer.write(piece)
+    sys.stdout.buffer.flush()
+def say_later(pieces):
+    for piece in pieces:
+        time.sleep(0.5)
+        say(piece)
+    if not pieces or not pieces[-1].startswith((b"END", b"FAILED")):
+        child.kill()
+        os._exit(1)
 thread = threading.Thread(target=hand_on)
 thread.start()
 for request in sys.stdin.buffer:
@@ -154,12 +164,10 @@ for request in sys.stdin.buffer:
         child.stdin.write(request)
         child.stdin.flush()
         continue
-    said = open({path!r}, "rb").read().replace(b"#", asked[1])
-    sys.stdout.buffer.write(said)
-    sys.stdout.buffer.flush()
-    if b"END" not in said and b"FAILED" not in said:
-        child.kill()
-        os._exit(1)
+    first, *more = open({path!r}, "rb").read().replace(b"#", asked[1]).split(b"\\0")
+    say(first)
+    if more or b"FAILED" not in first:
+        threading.Thread(target=say_later, args=(more,)).start()
 child.stdin.close()
 thread.join()
 sys.exit(child.wait())
@@ -189,14 +197,21 @@ def breaks_off(trial):
         yield "a process that ends before the first part", says(b"LATER #\n")[:2] == (503, 503)
         yield "a process that ends at the question is started again, and then it is given up", until(
             lambda: says(b"")[:2] == (503, 503))
-        path.write_bytes(b"LATER #\nPART # 70000\n" + 69_999 * b"x" + b"\n\n")
-        yield "a process that ends after the first part: the answer is cut off", until(lambda: is_cut_off(hub.port))
-        path.write_bytes(b"LATER #\nPART # 2\nx\n\nFAILED # 65\n")
-        yield "one for which memory runs out later is not whole", until(
-            lambda: is_cut_off(hub.port) or asked(hub.port, "/archive").status == 503)
+        part = b"LATER #\nPART # 70000\n" + 69_999 * b"x" + b"\n\n"
+        for name, more in ("a process that ends", b"\0"), ("no more memory", b"\0FAILED # 65\n"):
+            path.write_bytes(part + more)
+            yield f"{name} after the first part: the answer is cut off", until(lambda: is_cut_off(hub.port))
+        path.write_bytes(part + b"FAILED # 65\n")
+        yield "at once after it: nothing of the text is sent", until(
+            lambda: error_of(asked(hub.port, "/archive"))[:3] == (503, 65, "Memory"))
+        path.write_bytes(part + b"\0PART # 2\nx\n\n\0END #\n")
+        whole = asked(hub.port, "/archive")
+        yield "a text comes whole, whose end is late", (whole.body, whole.headers.get("Transfer-Encoding")) == (
+            69_999 * b"x" + b"\nx\n", "chunked")
+        asked(hub.port, "/messages", lines_of(4, 1))
         path.unlink()
-        yield "and then there is a text again", until(lambda: asked(hub.port, "/archive").body.count(b"\n") == 3)
-        yield "and messages are taken", taken(hub, 4)
+        yield "and then there is a text again", until(lambda: asked(hub.port, "/archive").body.count(b"\n") == 4)
+        yield "and messages are taken", taken(hub, 5)
 
 
 def stands_still(trial):

@@ -1,8 +1,8 @@
-"""serve_examples.py: `serve` does what its page says of ten short lives, and what examples/serve says of two, byte for
+"""serve_examples.py: `serve` does what its page says of eleven short lives, and what examples/serve says of two, byte for
 byte.
 
 The messages of nine are an instruction of one euro and its confirmation. In the tenth banks send messages and ask in
-their names. What has to come is written here by hand.
+their names. In the eleventh a numbered question is open when the input ends. What has to come is written here by hand.
 A file that a crash leaves between its two syncs is made by hand too. In examples/serve the lives of a morning and of an
 evening are on one journal. NAME.requests is standard input, NAME.replies what must be written, and `journal` the file
 after both.
@@ -287,6 +287,26 @@ def tenth(program, folder):
         program, folder / "tenth2", lives, b"READY -\n", kept)
 
 
+def eleventh(program, folder):
+    """A numbered question is answered after the end of the input, in parts and as without its number."""
+    path = folder / "eleventh"
+    path.write_bytes(WHOLE)
+    status = b"T|BANKDEFFXXX|T1|ACCEPTED\n"
+    report = b"report BANKDEFF 2024-05-02 DbtrAgt,TxId,Amt,Sts\tBANKDEFF,T1,1.00,PENDING"
+    rows = (b"DbtrAgt,TxId,Result,ListAmt,ListSts,Amt,Sts\n"
+            b"BANKDEFFXXX,T1,STATUS_DIFFERS,1.00,PENDING,1.00,ACCEPTED\n")
+    for question, text in {b"?7 status": status, b"?1 contradictions": b"", b"?999999999 cut -": CUT, b"?16 cut 1:2": NONE,
+                           b"?2 archive": WRITTEN, b"?3 " + report: rows, b"?4 of BANKDEFF " + report: rows}.items():
+        number = question[1:question.index(b" ")]
+        part = b"PART %s %d\n%s\n" % (number, len(text), text) if text else b""
+        yield f"11: {question.decode()}", served(
+            program, path, question + b"\n", b"READY 1:2\nLATER %s\n%sEND %s\n" % (number, part, number), WHOLE)
+    for question, why in {b"?1 vector": b"64", b"?1 of BANKDEFF status": b"64", b"?1 cut x": b"72", b"?1 ": b"64",
+                          b"?1 of BANQFRPP " + report: b"79", b"?1 report BANKDEFF 2024-05-02 x": b"48 1",
+                          b"?0 status": b"31", b"?1234567890 status": b"31", b"?1": b"31"}.items():
+        yield f"11: {question.decode()}", served(program, path, question + b"\n", b"READY 1:2\nREFUSED %s\n" % why, WHOLE)
+
+
 def answers(program, path, lives, ready, journal):
     """Whether a life on a journal gives each request its reply, and leaves this journal."""
     return served(program, path, b"".join(request + b"\n" for request, _ in lives),
@@ -307,7 +327,8 @@ def main():
     program = harness.program()
     with tempfile.TemporaryDirectory() as folder:
         harness.end_of([reported(name, right)
-                        for example in (first, second, third, fourth, fifth, sixth, seventh, eighth, ninth, tenth, shown)
+                        for example in (first, second, third, fourth, fifth, sixth, seventh, eighth, ninth, tenth,
+                                        eleventh, shown)
                         for name, right in example(program, pathlib.Path(folder))])
 
 
