@@ -127,7 +127,7 @@ def process_alone(program, path):
             found, answers = rounds(it, question)
             shown(f"a round of one message, {name} open", found)
             print(f"  {name}: {statistics.median(answers):.3f} s from LATER to END, {max(answers):.3f} s at most; without a "
-                  f"number {statistics.median(timed(it, question) for _ in range(3)):.3f} s", flush=True)
+                  f"number {timed(it, question):.3f} s", flush=True)
         found = []
         for _ in range(TIMES):
             it.round()
