@@ -14,6 +14,7 @@ use crate::jobs::{Job, MOST_BYTES, Release, engine};
 use crate::request::{Request, read_request};
 use crate::runs::answer_of_inputs;
 use crate::serving::serve_site;
+use sct_beside::{Lend, Lent};
 use sct_journal::Disks;
 use sct_streams::{FileReading, Files, Reading, Sink, Source, Writing, write_all};
 use std::alloc::Global;
@@ -89,10 +90,10 @@ fn perform_exchange<T: Threads + Sync, O: Sink, E: Sink>(
 // Reads the files that a request names, and does what it asks for. A file that cannot be read ends the run before standard input is
 // read. A mistake in the command line is reported later, at the end of the run.
 fn perform<
-    T: Threads + Wait + Sync,
+    T: Threads + Wait + Copy + Send + Sync + 'static,
     F: Files,
     K: Disks + Drop,
-    R: Source,
+    R: Source + Lend + Drop + Send + 'static,
     O: Sink,
     E: Sink,
     L: Ledger,
@@ -135,7 +136,7 @@ fn perform<
             let gathered = gather(rt, alloc, files, reading, command)?;
             perform_exchange(rt, alloc, release, gathered, out, err)
         }
-        Request::Serve(command) => serve_site(alloc, disks, command, reader, out, left),
+        Request::Serve(command) => serve_site(rt, alloc, disks, command, reader, out, left),
         Request::Help(text) => {
             write_all(out, text.as_bytes())?;
             Ok(Ending::Helped)
@@ -146,10 +147,10 @@ fn perform<
 
 // Does what the words ask for.
 fn answer_words<
-    T: Threads + Wait + Sync,
+    T: Threads + Wait + Copy + Send + Sync + 'static,
     F: Files,
     K: Disks + Drop,
-    R: Source,
+    R: Source + Lend + Drop + Send + 'static,
     O: Sink,
     E: Sink,
     L: Ledger,
@@ -185,10 +186,10 @@ fn answer_words<
 /// was refused. It is 3 for out of memory (65), and 2 for any other fault. `release` says when the memory of a job is given back.
 /// If a site was served, `left` has the disk of its journal then, as its life left it. Otherwise `left` is as it was.
 pub fn run<
-    T: Threads + Wait + Sync,
+    T: Threads + Wait + Copy + Send + Sync + 'static,
     F: Files,
     K: Disks + Drop,
-    R: Source,
+    R: Source + Lend + Drop + Send + 'static,
     O: Sink,
     E: Sink,
     L: Ledger,
@@ -220,13 +221,13 @@ pub fn run<
 /// Runs the program over the streams of std, as [`run`] does. The failures of each stream are
 /// counted in its own ledger, `A`, `B` and `C`, and those of files in `D`.
 pub fn run_over_std<
-    T: Threads + Wait + Sync,
+    T: Threads + Wait + Copy + Send + Sync + 'static,
     F: Files,
     K: Disks + Drop,
-    R: io::Read + Drop,
+    R: io::Read + Drop + Send + 'static,
     O: io::Write + Drop,
     E: io::Write + Drop,
-    A: Ledger,
+    A: Ledger + Send + 'static,
     B: Ledger,
     C: Ledger,
     D: Ledger,
@@ -259,7 +260,7 @@ pub fn run_over_std<
         (streams (record { left = R.remaining stdin.0; failures = 0 }) (record { held = O.contents stdout.0; failures = 0 })
         (record { held = E.contents stderr.0; failures = 0 })) after result }
 {
-    let mut reader = Reading::<R, A>::new(stdin.0, stdin.1);
+    let mut reader = Lent::new(Reading::<R, A>::new(stdin.0, stdin.1));
     let mut out = Writing::<O, B>::new(stdout.0, stdout.1);
     let mut err = Writing::<E, C>::new(stderr.0, stderr.1);
     let mut reading = FileReading::<F::File, D>::new(files);

@@ -5,10 +5,13 @@ ghost use Rattle.sct_engine.specs.Serves.{EndsServing, Lived, NeverBegan};
 use crate::ending::Ending;
 use crate::fault::ProgramFault;
 use crate::places::ServeCommand;
+use sct_beside::Lend;
 use sct_journal::Disks;
 use sct_serve::serve;
 use sct_streams::{Sink, Source};
 use std::alloc::Global;
+use std::sync::Wait;
+use std::thread::Threads;
 
 /// Opens the journal of a command, and serves its site: each line of the input is a request, and has a reply. The replies of a
 /// round are written after the journal has what they rest on. It ends at the end of the input. A refused request ends nothing.
@@ -22,7 +25,13 @@ use std::alloc::Global;
 /// - `TooLong` (60): a request has more than 64 MiB;
 /// - `Read` (62), `Write` (63), `Memory` (65);
 /// - `Usage` (64): there is no such site.
-pub fn serve_site<K: Disks, R: Source, O: Sink>(
+pub fn serve_site<
+    K: Disks,
+    R: Source + Lend + Drop + Send + 'static,
+    O: Sink,
+    H: Threads + Wait + Copy + Send + 'static,
+>(
+    rt: &H,
     alloc: Global,
     disks: K,
     command: ServeCommand<'_>,
@@ -38,7 +47,7 @@ pub fn serve_site<K: Disks, R: Source, O: Sink>(
     ensures ends { IfErr result EndsServing }
 {
     let disk = disks.open(command.journal)?;
-    match serve(alloc, command.site, command.sites, disk, reader, out) {
+    match serve(rt, alloc, command.site, command.sites, disk, reader, out) {
         Ok(disk) => {
             *left = Some(disk);
             Ok(Ending::Served)

@@ -18,6 +18,7 @@ use crate::opening::{open_journal, open_site};
 use sct_embed::{EmbeddedSite, Question};
 use sct_journal::Journal;
 use sct_requests::{AskResult, Given, Reply, ask, give_all};
+use sct_snapshot::Snapshot;
 use sqlite_disk::Disk;
 use std::alloc::{AllocError, Global};
 
@@ -126,6 +127,17 @@ impl<D: Disk> Keeper<D> {
         ensures disk { keeper_disk self.new ≡ keeper_disk self.old }
     {
         ask(alloc, &mut self.site, question)
+    }
+
+    /// What the site holds now. The cost is that of [`EmbeddedSite::snapshot`]. The error is that it is out of memory.
+    pub fn snapshot(&mut self) -> Result<Snapshot, AllocError>
+        requires keeper { IsKeeper D.Disk.seen D.Disk.may_leave D.Disk.is_usable D.Disk.is_clean self.old }
+        ensures snapshot { IfOk result (λ snapshot. snapshot ≡ core_of_keeper self.old) }
+        ensures watched_site { watched_site_of self.new ≡ watched_site_of self.old }
+        ensures keeper { IsKeeper D.Disk.seen D.Disk.may_leave D.Disk.is_usable D.Disk.is_clean self.new }
+        ensures disk { keeper_disk self.new ≡ keeper_disk self.old }
+    {
+        self.site.snapshot()
     }
 
     /// The site is given the requests of a text that line feeds end, and the line of each that brings it an entry is written to the

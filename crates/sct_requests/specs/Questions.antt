@@ -16,7 +16,7 @@ use Rattle.sct_embed.specs.Questions.{bank_answer, changes_since, contradictions
 use Rattle.sct_embed.specs.declared.faults.EmbedFault.{EmbedFault}
 use Rattle.sct_requests.specs.WatchedSites.{WatchedSite}
 use Rattle.sct_requests.specs.Grants.{core_requested}
-use Rattle.sct_requests.specs.Steps.{is_question_line, with_feeds}
+use Rattle.sct_requests.specs.Steps.{is_plain_question, with_feeds}
 use Rattle.sct_requests.specs.Words.{one_word, two_parts}
 use Rattle.sct_requests.specs.declared.questions.QuestionFault.{QuestionFault}
 use Rattle.sct_requests.specs.declared.questions.QuestionFault.TheVariants as fault
@@ -136,7 +136,7 @@ watched_after site question = if is_text question (codes "changes") then Some (l
 unfoldable pub watched_site_given : WatchedSite → List ℕ → WatchedSite
 watched_site_given site line = record {
   core = core_requested site.core line;
-  watched = if is_question_line line then watched_after site (drop 2 line) else site.watched;
+  watched = if is_plain_question line then watched_after site (drop 2 line) else site.watched;
 }
 
 -- The site has the text that was asked for as its answer. Or the question is refused for the reason. Or it is out of memory.

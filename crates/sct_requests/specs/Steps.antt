@@ -1,5 +1,5 @@
 -- What the site of a keeper does with the lines that it is given. Read by an auditor.
-use Rattle.std.specs.Prelude.{ℕ, ◌≡◌, true, ◌==◌, ◌++◌, Bool, List, [], ◌∷◌, codes, length, map, nat_eq, nat_lt, take, Option, None, Some, Result, Ok, Err, if◌then◌else◌}
+use Rattle.std.specs.Prelude.{ℕ, ◌≡◌, true, ◌==◌, ◌||◌, ◌++◌, Bool, List, [], ◌∷◌, codes, length, map, nat_eq, nat_lt, take, Option, None, Some, Result, Ok, Err, if◌then◌else◌}
 use Rattle.std.specs.Cmp.Lexicographic.{pointwise}
 use Rattle.sct_message.specs.declared.draft.Draft.{Draft}
 use Rattle.sct_json.specs.Reading.{message_in}
@@ -10,18 +10,22 @@ use Rattle.sct_delta.specs.declared.fault.DeltaFault.{DeltaFault}
 use Rattle.sct_site.specs.Cores.{Core, core_taken, fresh_entries, took_by}
 use Rattle.sct_exchange.specs.Journals.{opened}
 use Rattle.sct_exchange.specs.Rounds.{File, core_with, is_accepted, refusal_of}
+use Rattle.sct_requests.specs.NumberedLines.{is_numbered_line}
 use Rattle.sct_requests.specs.declared.steps.Reply.{Reply}
 use Rattle.sct_requests.specs.declared.steps.Reply.TheVariants as answer
 
 -- ---- lines
 
--- A line that begins with `delta ` is a delta text, and one that begins with `? ` is a question. A line of spaces, tabs and
--- carriage returns is blank. Every other one is to be a message, as it is.
+-- A line that begins with `delta ` is a delta text, and one that begins with `? `, or with `?`, a number and a space, is a question.
+-- A line of spaces, tabs and carriage returns is blank. Every other one is to be a message, as it is.
 abbrev pub is_delta_line : List ℕ → Bool
 is_delta_line line = pointwise nat_eq (take 6 line) (codes "delta ")
 
+abbrev pub is_plain_question : List ℕ → Bool
+is_plain_question line = pointwise nat_eq (take 2 line) (codes "? ")
+
 abbrev pub is_question_line : List ℕ → Bool
-is_question_line line = pointwise nat_eq (take 2 line) (codes "? ")
+is_question_line line = is_plain_question line || is_numbered_line line
 
 abbrev pub feed_for_tab : ℕ → ℕ
 feed_for_tab byte = if byte == 9 then 10 else byte

@@ -1,6 +1,7 @@
 //! Laws of requests. Each law is the contract of a function with an empty body.
 
 ghost use Rattle.sct_requests.specs.Laws.{RequestsAreInTheirName, NothingLeaksToBanks, RequestsAreGivenInOrder};
+ghost use Rattle.sct_requests.specs.NumberedAnswers.{NumberedAnswersAreOfTheSite};
 
 /// Each entry that a request in the name of banks brings is a message that may be sent in their name. Nothing else happens.
 pub fn requests_are_in_their_name()
@@ -15,4 +16,9 @@ pub fn requests_are_given_in_order()
 /// The reply to a question of banks depends on the messages on their transfers alone, as these are shown.
 pub fn nothing_leaks_to_banks()
     ensures { NothingLeaksToBanks }
+{}
+
+/// The answer to a question with a number is that of the question without it, on the site as it was then.
+pub fn numbered_answers_are_of_the_site()
+    ensures { NumberedAnswersAreOfTheSite }
 {}

@@ -22,13 +22,15 @@ pub enum QuestionFault {
     NoQuestion,
     /// The site refuses it: the text is not a version vector (72), a word is not valid (73), or a list is not (48).
     Refused(EmbedFault),
+    /// 80: a question of its number is open, or 16 are.
+    OpenQuestions,
 }
 
 /// What a question came to: the site has its answer, or refuses it.
 pub type AskResult = Result<(), QuestionFault>;
 
-// Asks the site. The error is that it is out of memory.
-fn put(site: &mut EmbeddedSite, question: Question<'_>) -> Result<AskResult, AllocError>
+/// Asks the site. The error is that it is out of memory.
+pub(crate) fn put(site: &mut EmbeddedSite, question: Question<'_>) -> Result<AskResult, AllocError>
     ensures says { Says (answered (answer_to_question question.entry site.old)) result site.new.answer }
     ensures core { site.new.core ≡ site.old.core }
     ensures watched { asked.watched_after_answer question.entry site.old ≡ site.old.watched → site.new.watched ≡ site.old.watched }
@@ -92,8 +94,8 @@ fn ask_named(site: &mut EmbeddedSite, name: &[u8]) -> Result<AskResult, AllocErr
     }
 }
 
-// Asks for the report on the list at the end of the words, in which tabs stand for line feeds.
-fn ask_report(alloc: Global, site: &mut EmbeddedSite, words: &[u8]) -> Result<AskResult, AllocError>
+/// Asks for the report on the list at the end of the words, in which tabs stand for line feeds.
+pub(crate) fn ask_report(alloc: Global, site: &mut EmbeddedSite, words: &[u8]) -> Result<AskResult, AllocError>
     ensures says { Says (report_asked (messages_of site.old.core.arrivals) (two_parts words.now)) result site.new.answer }
     ensures core { site.new.core ≡ site.old.core }
     ensures watched { site.new.watched ≡ site.old.watched }
@@ -115,8 +117,8 @@ fn ask_report(alloc: Global, site: &mut EmbeddedSite, words: &[u8]) -> Result<As
     )
 }
 
-// Asks for the delta above a version vector.
-fn ask_cut(site: &mut EmbeddedSite, words: &[u8]) -> Result<AskResult, AllocError>
+/// Asks for the delta above a version vector.
+pub(crate) fn ask_cut(site: &mut EmbeddedSite, words: &[u8]) -> Result<AskResult, AllocError>
     ensures says { Says (about (one_word words.now) (λ have. cut_answer have site.old.core.arrivals)) result site.new.answer }
     ensures core { site.new.core ≡ site.old.core }
     ensures watched { site.new.watched ≡ site.old.watched }
@@ -293,8 +295,8 @@ fn ask_bank_for(
     put(site, Question::BankFor { banks, bank })
 }
 
-// Asks for the report on the list at the end of the words, for banks.
-fn ask_report_for(
+/// Asks for the report on the list at the end of the words, for banks.
+pub(crate) fn ask_report_for(
     alloc: Global,
     site: &mut EmbeddedSite,
     banks: &[u8],

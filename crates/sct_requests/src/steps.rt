@@ -5,9 +5,10 @@ ghost use Rattle.sct_exchange.specs.Rounds.{refusal_of};
 ghost use Rattle.sct_journal.specs.Kept.{IsLine, ended_lines, kept};
 ghost use Rattle.sct_json.specs.Reading.{message_in};
 ghost use Rattle.sct_requests.specs.Grants.{answer_to_request, answers_to_requests, brought_by, core_after_requests, core_requested, granted};
-ghost use Rattle.sct_requests.specs.Steps.{answer_by, answer_to, answer_to_message, brings, core_after, core_given, core_offered, core_with_message, fresh_in_file, is_delta_line, is_question_line, text_in, with_feeds};
+ghost use Rattle.sct_requests.specs.Steps.{answer_by, answer_to, answer_to_message, brings, core_after, core_given, core_offered, core_with_message, fresh_in_file, is_delta_line, is_plain_question, is_question_line, text_in, with_feeds};
 
 use crate::grants::{give_request, line_of_request};
+use crate::numbered::is_numbered_line;
 use crate::words::first_ended;
 use sct_delta::DeltaFault;
 use sct_embed::{EmbedFault, EmbeddedSite};
@@ -59,11 +60,18 @@ pub(crate) fn is_delta_line(line: &[u8]) -> bool
     line.starts_with(b"delta ")
 }
 
-/// Whether a line is a question: it begins with `? `.
+// Whether a line is a question without a number: it begins with `? `.
+fn is_plain_question(line: &[u8]) -> bool
+    ensures { result ≡ is_plain_question line.now }
+{
+    line.starts_with(b"? ")
+}
+
+/// Whether a line is a question: it begins with `? `, or with `?`, a number and a space.
 pub fn is_question_line(line: &[u8]) -> bool
     ensures { result ≡ is_question_line line.now }
 {
-    line.starts_with(b"? ")
+    is_plain_question(line) || is_numbered_line(line)
 }
 
 // The site is given a message.

@@ -51,9 +51,10 @@ reply_line answer = reply_text answer ++ codes "\n"
 abbrev pub place_text : ℕ → List ℕ
 place_text place = if place == 0 then [] else codes " " ++ decimal place
 
--- the number of a refused question, and the place of the fault: `64`, `72`, `73 1`, `48 2`
+-- the number of a refused question, and the place of the fault: `64`, `72`, `73 1`, `48 2`, `80`
 unfoldable pub question_refusal : QuestionFault → List ℕ
 question_refusal fault.NoQuestion = codes "64"
+question_refusal fault.OpenQuestions = codes "80"
 question_refusal (fault.Refused reason) = decimal (embed_fault_number reason) ++ place_text (embed_fault_place reason)
 
 -- the reply to a question: the length of the text, a line feed, the text and a line feed; or why the question is refused

@@ -12,10 +12,14 @@ ghost use Rattle.sct_journal.specs.declared.error.JournalError.TheVariants as jo
 ghost use Rattle.sct_keeper.specs.declared.fault.KeeperError.TheVariants as error;
 ghost use Rattle.sct_serve.specs.declared.fault.ServeFault.TheVariants as fault;
 
+use crate::aside::Aside;
 use crate::fault::ServeFault;
 use crate::replies::{write_head, write_refusal, write_replies};
 use crate::rounds::first_round;
+use crate::texts::write_later;
 use sct_keeper::Keeper;
+use sct_requests::{QuestionFault, numbered, refusal_beside};
+use sct_snapshot::Snapshot;
 use sct_streams::{Failed, Sink, write_all};
 use sqlite_disk::Disk;
 use std::alloc::Global;
@@ -115,10 +119,55 @@ fn answer_question<D: Disk, K: Sink>(
     }
 }
 
+// Writes why a question is refused.
+fn write_refused<K: Sink>(
+    alloc: Global,
+    fault: &QuestionFault,
+    sink: &mut K,
+) -> Result<(), ServeFault> {
+    let text = write_refusal(alloc, fault)?;
+    write(sink, text.as_bytes())
+}
+
+// Opens a question about what a snapshot has, and writes that its answer comes later.
+fn open_question<K: Sink>(
+    alloc: Global,
+    aside: &mut Aside,
+    number: u64,
+    snapshot: Snapshot,
+    question: &[u8],
+    sink: &mut K,
+) -> Result<(), ServeFault> {
+    if aside.is_busy(number) {
+        return write_refused(alloc, &QuestionFault::OpenQuestions, sink);
+    }
+    let mut copy = Vec::new(alloc);
+    copy.extend_from_slice(question)?;
+    aside.push(number, snapshot, copy)?;
+    write_later(alloc, number, sink)
+}
+
+// A question with a number is opened, or refused.
+fn answer_numbered<D: Disk, K: Sink>(
+    alloc: Global,
+    keeper: &mut Keeper<D>,
+    aside: &mut Aside,
+    number: u64,
+    question: &[u8],
+    sink: &mut K,
+) -> Result<(), ServeFault> {
+    let snapshot = keeper.snapshot()?;
+    match refusal_beside(alloc, &snapshot, question)? {
+        Some(fault) => write_refused(alloc, &fault, sink),
+        None => open_question(alloc, aside, number, snapshot, question, sink),
+    }
+}
+
 // A question line is answered, if there is one.
 fn answer_if_asked<D: Disk, K: Sink>(
     alloc: Global,
     keeper: &mut Keeper<D>,
+    aside: &mut Aside,
     question: Option<&[u8]>,
     sink: &mut K,
 ) -> Result<(), ServeFault>
@@ -144,6 +193,9 @@ fn answer_if_asked<D: Disk, K: Sink>(
     let Some(line) = question else {
         return Ok(());
     };
+    if let Some((number, question)) = numbered(line) {
+        return answer_numbered(alloc, keeper, aside, number, question, sink);
+    }
     let (_, question) = line.split_at(2);
     answer_question(alloc, keeper, question, sink)?;
     Ok(())
@@ -154,6 +206,7 @@ fn answer_if_asked<D: Disk, K: Sink>(
 pub(crate) fn answer_text<D: Disk, K: Sink>(
     alloc: Global,
     keeper: &mut Keeper<D>,
+    aside: &mut Aside,
     text: &[u8],
     sink: &mut K,
 ) -> Result<(), ServeFault>
@@ -178,7 +231,7 @@ pub(crate) fn answer_text<D: Disk, K: Sink>(
     while !rest.is_empty() {
         let round = first_round(rest);
         answer_lines(alloc, keeper, round.lines, sink)?;
-        answer_if_asked(alloc, keeper, round.question, sink)?;
+        answer_if_asked(alloc, keeper, aside, round.question, sink)?;
         rest = round.rest;
     }
     Ok(())

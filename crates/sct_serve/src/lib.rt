@@ -5,12 +5,14 @@
 #![tactic(auto)]
 
 mod answering;
+mod aside;
 mod fault;
 mod life;
 mod pieces;
 mod replies;
 mod rounds;
 mod serving;
+mod texts;
 
 pub use fault::ServeFault;
 pub use life::serve;

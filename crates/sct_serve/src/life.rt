@@ -16,10 +16,13 @@ ghost use Rattle.sct_serve.specs.declared.fault.ServeFault.TheVariants as fault;
 use crate::answering::write;
 use crate::fault::ServeFault;
 use crate::serving::serve_input;
+use sct_beside::Lend;
 use sct_keeper::Keeper;
 use sct_streams::{Sink, Source};
 use sqlite_disk::Disk;
 use std::alloc::{AllocError, Global};
+use std::sync::Wait;
+use std::thread::Threads;
 
 // How many bytes one read gives at most.
 const PIECE: usize = 1_048_576;
@@ -65,13 +68,19 @@ fn greet<D: Disk, K: Sink>(
     write(sink, &text)
 }
 
-// Writes the first line, and serves the input.
-fn greet_and_serve<D: Disk, R: Source, K: Sink>(
+// Writes the first line, and serves the input. An `Err` hands the source back, unless a thread reads from it.
+fn greet_and_serve<
+    D: Disk,
+    R: Source + Drop + Send + 'static,
+    K: Sink,
+    H: Threads + Wait + Copy + Send + 'static,
+>(
+    rt: &H,
     alloc: Global,
     keeper: &mut Keeper<D>,
-    source: &mut R,
+    source: R,
     sink: &mut K,
-) -> Result<(), ServeFault>
+) -> Result<R, (ServeFault, Option<R>)>
     requires keeper { IsKeeper D.Disk.seen D.Disk.may_leave D.Disk.is_usable D.Disk.is_clean keeper.old }
     ensures replies { OnOk result (IfSome (R.state source.old).left (λ input.
         AppendsIfTold (K.state sink.old).held (K.state sink.new).held (output_of (watched_site_of keeper.old) input))) }
@@ -95,10 +104,13 @@ fn greet_and_serve<D: Disk, R: Source, K: Sink>(
     ensures faults { D.Disk.faults (keeper_disk keeper.old) ≤ D.Disk.faults (keeper_disk keeper.new) }
     ensures errors { IfErr result EndsAfterOpening }
 {
-    greet(alloc, keeper, sink)?;
-    let mut piece = room_for(alloc, PIECE)?;
-    serve_input(alloc, keeper, source, sink, &mut piece)?;
-    Ok(())
+    if let Err(fault) = greet(alloc, keeper, sink) {
+        return Err((fault, Some(source)));
+    }
+    let Ok(piece) = room_for(alloc, PIECE) else {
+        return Err((ServeFault::Memory, Some(source)));
+    };
+    serve_input(rt, alloc, keeper, source, sink, piece)
 }
 
 /// A site lives: it opens its journal, says so, and serves its input to the end. Each line of the input that a line feed ends is
@@ -114,7 +126,13 @@ fn greet_and_serve<D: Disk, R: Source, K: Sink>(
 ///
 /// Each request costs what the call of [`EmbeddedSite`](sct_embed::EmbeddedSite) costs, and each round that brought an entry
 /// two writes and two syncs.
-pub fn serve<D: Disk, R: Source, K: Sink>(
+pub fn serve<
+    D: Disk,
+    R: Source + Lend + Drop + Send + 'static,
+    K: Sink,
+    H: Threads + Wait + Copy + Send + 'static,
+>(
+    rt: &H,
     alloc: Global,
     number: u16,
     group: u16,
@@ -176,8 +194,16 @@ pub fn serve<D: Disk, R: Source, K: Sink>(
         Ok(keeper) => keeper,
         Err((error, disk)) => return Err((ServeFault::Keeper(error), disk)),
     };
-    match greet_and_serve(alloc, &mut keeper, source, sink) {
-        Ok(()) => Ok(keeper.into_disk()),
-        Err(fault) => Err((fault, keeper.into_disk())),
+    match greet_and_serve(rt, alloc, &mut keeper, source.lend(), sink) {
+        Ok(left) => {
+            *source = left;
+            Ok(keeper.into_disk())
+        }
+        Err((fault, left)) => {
+            if let Some(left) = left {
+                *source = left;
+            }
+            Err((fault, keeper.into_disk()))
+        }
     }
 }

@@ -9,6 +9,7 @@ ghost use Rattle.sct_serve.specs.Serving.{EndsTaking, HasTooLong, IsBehind, Leav
 ghost use Rattle.sct_serve.specs.declared.fault.ServeFault.TheVariants as fault;
 
 use crate::answering::answer_text;
+use crate::aside::Aside;
 use crate::fault::ServeFault;
 use crate::rounds::{MOST_REQUEST, are_within};
 use memchr::memrchr;
@@ -51,6 +52,7 @@ fn wait(pending: &mut Vec<u8>, piece: &[u8]) -> Result<(), ServeFault>
 fn take_ended<D: Disk, K: Sink>(
     alloc: Global,
     keeper: &mut Keeper<D>,
+    aside: &mut Aside,
     pending: &mut Vec<u8>,
     ended: &[u8],
     rest: &[u8],
@@ -87,7 +89,7 @@ fn take_ended<D: Disk, K: Sink>(
     if rest.len() > MOST_REQUEST {
         return Err(ServeFault::TooLong);
     }
-    answer_text(alloc, keeper, pending, sink)?;
+    answer_text(alloc, keeper, aside, pending, sink)?;
     pending.clear();
     pending.extend_from_slice(rest)?;
     Ok(())
@@ -97,6 +99,7 @@ fn take_ended<D: Disk, K: Sink>(
 pub(crate) fn take_piece<D: Disk, K: Sink>(
     alloc: Global,
     keeper: &mut Keeper<D>,
+    aside: &mut Aside,
     pending: &mut Vec<u8>,
     piece: &[u8],
     sink: &mut K,
@@ -125,7 +128,7 @@ pub(crate) fn take_piece<D: Disk, K: Sink>(
     ensures errors { IfErr result EndsTaking }
 {
     match last_ended(piece) {
-        Some((ended, rest)) => take_ended(alloc, keeper, pending, ended, rest, sink),
+        Some((ended, rest)) => take_ended(alloc, keeper, aside, pending, ended, rest, sink),
         None => wait(pending, piece),
     }
 }

@@ -104,6 +104,7 @@ fn push_question_refusal(text: &mut String, fault: &QuestionFault) -> Result<(),
 {
     match fault {
         QuestionFault::NoQuestion => text.push_str("64"),
+        QuestionFault::OpenQuestions => text.push_str("80"),
         QuestionFault::Refused(reason) => {
             let number = reason.number();
             write!(text, "{number}")?;

@@ -1,0 +1,385 @@
+//! The questions that are open. The answer to the first is made in a thread of its own, or is being written.
+ghost use Rattle.std.specs.Prelude.{◌≡◌, ◌+◌, ◌++◌, ◌∷◌, [], None, ℕ, ◌<◌, ◌^◌, ◌≤◌, IfOk, IfErr, IfSome, IfNone, OnOk, OnErr, length, nat_eq, true, drop, map, take};
+ghost use Rattle.std.specs.List.{list_any};
+ghost use Rattle.sct_site.specs.Cores.{Core};
+ghost use Rattle.sct_snapshot.specs.Moments.{IsEarlier};
+ghost use Rattle.sct_requests.specs.WatchedSites.{WatchedSite};
+ghost use Rattle.sct_requests.specs.NumberedAnswers.{answer_beside};
+ghost use Rattle.sct_beside.specs.Answers.{IsAnswered};
+ghost use Rattle.sct_serve.specs.Asides.{AreEarlier, asked_now, asked_of, asked_waiting};
+ghost use Rattle.sct_serve.specs.Events.{CutOff, EndsWhole, Told, has_number, is_busy, most_part, text_of_answer};
+ghost use Rattle.sct_serve.specs.Serving.{IsGreetingFault, failed_writes};
+ghost use Rattle.sct_serve.specs.declared.aside.Current.TheVariants as current;
+
+use crate::fault::ServeFault;
+use crate::texts::{write_end, write_failed, write_part};
+use crossbeam_channel::{Receiver, Sender};
+use sct_beside::{Made, Making, Wake, answer, begin_answer};
+use sct_embed::EmbeddedSite;
+use sct_snapshot::Snapshot;
+use sct_streams::Sink;
+use std::alloc::{AllocError, Global};
+use std::mem::replace;
+use std::sync::Wait;
+use std::thread::Threads;
+
+// The most bytes of a part.
+const MOST_PART: usize = 1_048_576;
+
+// The most questions that are open.
+const MOST_OPEN: usize = 16;
+
+/// A question that waits until the answers before it are written.
+#[derive(Drop)]
+pub(crate) struct Waiting {
+    pub(crate) number: u64,
+    pub(crate) snapshot: Snapshot,
+    pub(crate) question: Vec<u8>,
+}
+
+/// The first open question.
+#[derive(Drop)]
+pub(crate) enum Current {
+    Nothing,
+    /// A thread makes its answer. If it has rung, the answer is there.
+    Making {
+        number: u64,
+        making: Making,
+        rung: bool,
+    },
+    /// The site has its answer, of which so many bytes are written.
+    Telling {
+        number: u64,
+        site: EmbeddedSite,
+        at: usize,
+    },
+}
+
+/// The questions that are open.
+#[derive(Drop)]
+pub(crate) struct Aside {
+    pub(crate) current: Current,
+    pub(crate) waiting: Vec<Waiting>,
+    /// The site that made the last answer.
+    pub(crate) follower: Option<EmbeddedSite>,
+}
+
+// The part of a text that is written next.
+fn next_part(text: &[u8], at: usize) -> &[u8]
+    requires { at < length text.now }
+    ensures part { result.now ≡ take (length result.now) (drop at text.now) }
+    ensures some { 1 ≤ length result.now }
+    ensures few { length result.now ≤ most_part }
+    ensures within { at + length result.now ≤ length text.now }
+{
+    let (_, rest) = text.split_at(at);
+    let (part, _) = rest.split_at(MOST_PART.min(rest.len()));
+    part
+}
+
+impl Aside {
+    /// No question is open.
+    pub(crate) fn new(alloc: Global) -> Aside
+        ensures none { asked_of result ≡ [] }
+        ensures earlier { (core : Core) → AreEarlier core result }
+    {
+        Aside {
+            current: Current::Nothing,
+            waiting: Vec::new(alloc),
+            follower: None,
+        }
+    }
+
+    // How many questions are open.
+    fn len(&self) -> usize
+        requires { length self.now.waiting.items < 2 ^ 62 }
+        ensures { result ≡ length (asked_of self.now) }
+    {
+        match &self.current {
+            Current::Nothing => self.waiting.len(),
+            _ => self.waiting.len() + 1,
+        }
+    }
+
+    fn is_current(&self, number: u64) -> bool
+        ensures { result ≡ has_number number (asked_now self.now.current) }
+    {
+        match &self.current {
+            Current::Nothing => false,
+            Current::Making { number: own, .. } => *own == number,
+            Current::Telling { number: own, .. } => *own == number,
+        }
+    }
+
+    fn is_waiting(&self, number: u64) -> bool
+        ensures { result ≡ list_any (λ w. nat_eq w.number number) self.now.waiting.items }
+    {
+        self.waiting.iter().any(|w| w.number == number)
+    }
+
+    #[tactic(auto, using(crate::proofs::AskedLemmas::has_number_of))]
+    fn has(&self, number: u64) -> bool
+        ensures { result ≡ has_number number (asked_of self.now) }
+    {
+        self.is_current(number) || self.is_waiting(number)
+    }
+
+    /// Whether no further question of this number is taken.
+    pub(crate) fn is_busy(&self, number: u64) -> bool
+        ensures { result ≡ is_busy number (asked_of self.now) }
+    {
+        if self.waiting.len() >= MOST_OPEN {
+            return true;
+        }
+        self.len() >= MOST_OPEN || self.has(number)
+    }
+
+    /// Opens a question about what a snapshot has. The error is that it is out of memory.
+    pub(crate) fn push(
+        &mut self,
+        number: u64,
+        snapshot: Snapshot,
+        question: Vec<u8>,
+    ) -> Result<(), AllocError>
+        ensures asked { OnOk result (asked_of self.new ≡ asked_of self.old ++ record { number = number; left = text_of_answer (answer_beside snapshot question.items) } ∷ []) }
+        ensures earlier { OnOk result ((core : Core) → IsEarlier snapshot core → AreEarlier core self.old → AreEarlier core self.new) }
+    {
+        self.waiting.push(Waiting {
+            number,
+            snapshot,
+            question,
+        })?;
+        Ok(())
+    }
+
+    // Takes the first question that waits.
+    fn pop(&mut self) -> Option<Waiting>
+        ensures some { IfSome result (λ first. map asked_waiting self.old.waiting.items ≡ asked_waiting first ∷ map asked_waiting self.new.waiting.items) }
+        ensures none { IfNone result (self.new ≡ self.old) }
+        ensures current { self.new.current ≡ self.old.current }
+    {
+        if self.waiting.is_empty() {
+            return None;
+        }
+        Some(self.waiting.remove(0))
+    }
+
+    /// Whether no question is open.
+    pub(crate) fn is_idle(&self) -> bool
+        ensures { result ≡ true → asked_of self.now ≡ [] }
+    {
+        self.is_resting() && self.waiting.is_empty()
+    }
+
+    fn is_resting(&self) -> bool
+        ensures { result ≡ true → self.now.current ≡ current.Nothing }
+    {
+        match &self.current {
+            Current::Nothing => true,
+            _ => false,
+        }
+    }
+
+    /// Whether a thread makes an answer and has not rung.
+    pub(crate) fn is_making(&self) -> bool {
+        matches!(&self.current, Current::Making { rung: false, .. })
+    }
+
+    // Whether the thread that makes an answer has rung.
+    fn has_rung(&self) -> bool {
+        matches!(&self.current, Current::Making { rung: true, .. })
+    }
+
+    /// Knows that the thread that makes an answer has rung.
+    pub(crate) fn hear(&mut self)
+        ensures asked { asked_of self.new ≡ asked_of self.old }
+        ensures earlier { (core : Core) → AreEarlier core self.old → AreEarlier core self.new }
+    {
+        match &mut self.current {
+            Current::Making { rung, .. } => *rung = true,
+            _ => {}
+        }
+    }
+
+    // The answer to the first question is there: it is written next. Or memory ran out for it, and that is written.
+    fn set<K: Sink>(
+        &mut self,
+        alloc: Global,
+        number: u64,
+        made: Made,
+        sink: &mut K,
+    ) -> Result<(), ServeFault> {
+        match made {
+            Ok(site) => {
+                self.current = Current::Telling {
+                    number,
+                    site,
+                    at: 0,
+                };
+                Ok(())
+            }
+            Err(_) => write_failed(alloc, number, sink),
+        }
+    }
+
+    // The site that made the last answer, if it holds no more than a snapshot has.
+    fn follower_for(&mut self, snapshot: &Snapshot) -> Option<EmbeddedSite> {
+        match self.follower.take() {
+            Some(site) if site.count() <= snapshot.count() => Some(site),
+            _ => None,
+        }
+    }
+
+    // Starts to make the answer to the first question that waits, if none is being made or written.
+    fn begin<K: Sink, H: Threads + Wait + Copy + Send + 'static>(
+        &mut self,
+        rt: &H,
+        alloc: Global,
+        bell: &Sender<Wake>,
+        bells: &Receiver<Wake>,
+        sink: &mut K,
+    ) -> Result<(), ServeFault> {
+        if !self.is_resting() {
+            return Ok(());
+        }
+        let Some(first) = self.pop() else {
+            return Ok(());
+        };
+        let Waiting {
+            number,
+            snapshot,
+            question,
+        } = first;
+        let follower = self.follower_for(&snapshot);
+        match begin_answer(rt, alloc, snapshot, question, follower, bell, bells) {
+            Ok(making) => {
+                self.current = Current::Making {
+                    number,
+                    making,
+                    rung: false,
+                };
+                Ok(())
+            }
+            Err(made) => self.set(alloc, number, made, sink),
+        }
+    }
+
+    // Makes the answer to the first question that waits, if none is being made or written.
+    fn make<K: Sink>(&mut self, alloc: Global, sink: &mut K) -> Result<(), ServeFault> {
+        if !self.is_resting() {
+            return Ok(());
+        }
+        let Some(first) = self.pop() else {
+            return Ok(());
+        };
+        let Waiting {
+            number,
+            snapshot,
+            question,
+        } = first;
+        let follower = self.follower_for(&snapshot);
+        let made = answer(alloc, snapshot, question, follower);
+        self.set(alloc, number, made, sink)
+    }
+
+    // Waits for the thread that makes an answer.
+    fn collect<K: Sink, H: Threads>(
+        &mut self,
+        rt: &H,
+        alloc: Global,
+        sink: &mut K,
+    ) -> Result<(), ServeFault> {
+        match replace(&mut self.current, Current::Nothing) {
+            Current::Making { number, making, .. } => {
+                let made = making.join(rt);
+                self.set(alloc, number, made, sink)
+            }
+            other => {
+                self.current = other;
+                Ok(())
+            }
+        }
+    }
+
+    // Writes the next part of a text, or that it is written.
+    fn tell_from<K: Sink>(
+        &mut self,
+        alloc: Global,
+        number: u64,
+        site: EmbeddedSite,
+        at: usize,
+        sink: &mut K,
+    ) -> Result<(), ServeFault> {
+        let text = site.answer();
+        if at >= text.len() {
+            let mut site = site;
+            site.end_answer();
+            self.follower = Some(site);
+            return write_end(alloc, number, sink);
+        }
+        let part = next_part(text, at);
+        let after = at + part.len();
+        write_part(alloc, number, part, sink)?;
+        self.current = Current::Telling {
+            number,
+            site,
+            at: after,
+        };
+        Ok(())
+    }
+
+    // Writes the next part of the answer that is there, or that it is written.
+    fn tell<K: Sink>(&mut self, alloc: Global, sink: &mut K) -> Result<(), ServeFault> {
+        match replace(&mut self.current, Current::Nothing) {
+            Current::Telling { number, site, at } => self.tell_from(alloc, number, site, at, sink),
+            other => {
+                self.current = other;
+                Ok(())
+            }
+        }
+    }
+
+    /// Goes on with the answer to the first open question: it is begun, or was made, or one part is written.
+    pub(crate) fn go_on<K: Sink, H: Threads + Wait + Copy + Send + 'static>(
+        &mut self,
+        rt: &H,
+        alloc: Global,
+        bell: &Sender<Wake>,
+        bells: &Receiver<Wake>,
+        sink: &mut K,
+    ) -> Result<(), ServeFault> {
+        if self.has_rung() {
+            self.collect(rt, alloc, sink)?;
+        }
+        self.begin(rt, alloc, bell, bells, sink)?;
+        self.tell(alloc, sink)
+    }
+
+    // The answer to the first open question is made here, or waited for, or one part is written.
+    fn end_one<K: Sink, H: Threads>(
+        &mut self,
+        rt: &H,
+        alloc: Global,
+        sink: &mut K,
+    ) -> Result<(), ServeFault> {
+        self.collect(rt, alloc, sink)?;
+        self.make(alloc, sink)?;
+        self.tell(alloc, sink)
+    }
+
+    /// Answers all open questions, one after the other. No thread is begun, since nothing else comes, and no ring is listened for.
+    pub(crate) fn end<K: Sink, H: Threads>(
+        &mut self,
+        rt: &H,
+        alloc: Global,
+        sink: &mut K,
+    ) -> Result<(), ServeFault> {
+        for _ in 0..u64::MAX {
+            if self.is_idle() {
+                return Ok(());
+            }
+            self.end_one(rt, alloc, sink)?;
+        }
+        Err(ServeFault::Memory)
+    }
+}
