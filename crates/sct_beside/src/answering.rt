@@ -9,10 +9,9 @@ use sct_embed::EmbeddedSite;
 use sct_requests::ask_beside;
 use sct_snapshot::Snapshot;
 use std::alloc::{AllocError, Global};
-use std::snapshot;
 use std::sync::Wait;
-use std::thread;
 use std::thread::{Promise, PromisedHandle, Threads};
+use std::{snapshot, thread};
 
 /// A site that has an answer. The error is that it is out of memory.
 pub type Made = Result<EmbeddedSite, AllocError>;

@@ -13,12 +13,7 @@ pub enum Wake {
 }
 
 /// Hears the ring of work that was done here, since no thread could be started for it. A ring of the other thread stays to be heard.
-pub(crate) fn hear_own<H: Wait>(
-    rt: &H,
-    bell: &Sender<Wake>,
-    bells: &Receiver<Wake>,
-    own: Wake,
-) {
+pub(crate) fn hear_own<H: Wait>(rt: &H, bell: &Sender<Wake>, bells: &Receiver<Wake>, own: Wake) {
     let Ok(first) = bells.recv(rt) else {
         return;
     };

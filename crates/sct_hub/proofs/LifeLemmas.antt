@@ -16,6 +16,8 @@ use Rattle.sct_exchange.specs.Sites.{cut_text}
 use Rattle.sct_exchange.specs.Ways.{IsAmong}
 use Rattle.sct_journal.specs.Kept.{recorded}
 use Rattle.sct_embed.specs.Calls.{cut_answer, cut_for, entries_by_arguments, text_size_named}
+use Rattle.sct_requests.specs.NumberedAnswers.{answer_beside, beside_in}
+use Rattle.sct_requests.specs.NumberedLines.{numbered_in}
 use Rattle.sct_requests.specs.Questions.{about, answer_asked, answer_in, answered, entries_about, entries_in_words, entries_of_words}
 use Rattle.sct_requests.specs.Words.{one_word, two_parts, two_parts_at}
 use Rattle.sct_requests.specs.WatchedSites.{WatchedSite}
@@ -23,7 +25,7 @@ use Rattle.sct_requests.specs.Steps.{brings, brought, core_after, core_given, co
 use Rattle.sct_requests.proofs.StepLemmas.{brought_join}
 use Rattle.sct_hub.specs.Hubs.{AllMayHappen, AreFew, Event, IsTextOfHub, MayHappen, World, after, arrivals_in, happens, site_in}
 use Rattle.sct_hub.specs.Hubs.Event.{Cut, Entries, Round}
-use Rattle.sct_hub.specs.Lives.{AreLives, AskedText, AskedTextsAreWritten, Life, LivesMakeHubs, MayAllBeGiven, MayBeGiven, Moment, ServedLivesAreLives, TextsAreAnswered, asked_in, asked_text, cut_asked, entries_by_last, entries_by_two, entries_by_words, entries_named, events_at, events_of, file_left, given_by, given_in, lasting_in, lines_at, text_events}
+use Rattle.sct_hub.specs.Lives.{AreLives, AskedText, AskedTextsAreWritten, Life, LivesMakeHubs, MayAllBeGiven, MayBeGiven, Moment, ServedLivesAreLives, TextsAreAnswered, answer_by, asked_by, asked_in, asked_text, cut_asked, cut_beside, entries_by_last, entries_by_two, entries_by_words, entries_named, events_at, events_of, file_left, given_by, given_in, lasting_in, lines_at, text_events}
 use Rattle.sct_hub.specs.Lives.AskedText.{ForCut, ForEntries}
 use Rattle.sct_hub.proofs.LastLemmas.{restarts_same}
 use Rattle.sct_hub.proofs.RoundLemmas.{by_rounds}
@@ -129,8 +131,34 @@ answered_by site line asked true same is =
     ∙ by_words site.core.arrivals (two_parts (drop 10 line)) asked is
 answered_by site line asked false other is = cut_by site line (cut_asked line) refl asked is
 
+-- ---- a question with a number
+
+spelled_beside : (core : Core) (rest : List ℕ) → answer_beside core (codes "cut " ++ rest) ≡ about (one_word rest) (λ vector. cut_answer vector core.arrivals)
+unfolding answer_beside
+spelled_beside core rest = ap (λ (place : Option ℕ). beside_in core (codes "cut " ++ rest) (two_parts_at (codes "cut " ++ rest) place)) (space_found rest)
+
+beside_by : (core : Core) (question : List ℕ) (have : ℕ → ℕ) (b : Bool) → pointwise nat_eq (take 4 question) (codes "cut ") ≡ b → cond b (vector_of_word (one_word (drop 4 question))) None ≡ Some have
+    → answer_beside core question ≡ Ok (cut_text have core.arrivals)
+beside_by core question have true same is =
+    ap (answer_beside core) (sym (take-append-drop 4 question) ∙ ap (λ (l : List ℕ). l ++ drop 4 question) (same_texts (take 4 question) (codes "cut ") same))
+    ∙ spelled_beside core (drop 4 question)
+    ∙ by_word core.arrivals (one_word (drop 4 question)) have is
+beside_by core question have false other is = cc
+
+beside_cut : (core : Core) (question : List ℕ) (cut : Option (ℕ → ℕ)) → cut_beside question ≡ cut → (asked : AskedText) → option_map ForCut cut ≡ Some asked
+    → answer_beside core question ≡ Ok (asked_text asked core.arrivals)
+beside_cut core question None is asked none = cc
+beside_cut core question (Some have) is asked same =
+    beside_by core question have (pointwise nat_eq (take 4 question) (codes "cut ")) refl is
+    ∙ ap (λ (a : AskedText). Ok (asked_text a core.arrivals)) (same_Some (ForCut have) asked same)
+
+texts_by : (site : WatchedSite) (line : List ℕ) (numbered : Option (ℕ × List ℕ)) (asked : AskedText) → asked_by line numbered ≡ Some asked
+    → answer_by site line numbered ≡ Ok (asked_text asked site.core.arrivals)
+texts_by site line None asked is = answered_by site line asked (pointwise nat_eq (take 10 line) (codes "? entries ")) refl is
+texts_by site line (Some numbered) asked is = beside_cut site.core numbered.1 (cut_beside numbered.1) refl asked is
+
 pub texts_answered : TextsAreAnswered
-texts_answered site line asked is = answered_by site line asked (pointwise nat_eq (take 10 line) (codes "? entries ")) refl is
+texts_answered site line asked is = texts_by site line (numbered_in line) asked is
 
 -- ---- events one after another
 

@@ -1,5 +1,5 @@
 -- What a site makes of its own events, and the lives of several sites at once as events. Read by an auditor.
-use Rattle.std.specs.Prelude.{◌≡◌, ℕ, ◌++◌, true, List, [], ◌∷◌, codes, drop, flat_map, nat_eq, take, Option, None, Some, option_and_then, option_map, Ok, if◌then◌else◌}
+use Rattle.std.specs.Prelude.{◌≡◌, ℕ, ◌++◌, true, List, [], ◌∷◌, codes, drop, flat_map, nat_eq, take, Option, None, Some, option_and_then, option_map, Result, Ok, if◌then◌else◌}
 use Rattle.std.specs.Cmp.Lexicographic.{pointwise}
 use Rattle.sct_delta.specs.Entries.{Placed}
 use Rattle.sct_delta.specs.TextLines.{number_in}
@@ -10,11 +10,15 @@ use Rattle.sct_exchange.specs.Ways.{IsAmong}
 use Rattle.sct_embed.specs.Calls.{text_size_named}
 use Rattle.sct_journal.specs.Kept.{IsLine, recorded}
 use Rattle.sct_requests.specs.Grants.{grants}
+use Rattle.sct_requests.specs.NumberedAnswers.{answer_beside}
+use Rattle.sct_requests.specs.NumberedLines.{numbered_in}
 use Rattle.sct_requests.specs.Questions.{answer_asked}
 use Rattle.sct_requests.specs.Words.{one_word, two_parts}
 use Rattle.sct_requests.specs.WatchedSites.{WatchedSite}
+use Rattle.sct_requests.specs.declared.questions.QuestionFault.{QuestionFault}
 use Rattle.sct_requests.specs.Steps.{brings, brought, core_after, core_kept, is_delta_line, text_in}
 use Rattle.sct_exchange.specs.Entries.{entries_text}
+use Rattle.sct_serve.specs.Events.{lines_of}
 use Rattle.sct_serve.specs.Lives.{LifeLeaves, watched_site_kept}
 use Rattle.sct_hub.specs.Hubs.{AreFew, Event, IsHub, IsTextOfHub, MayBegin, World, after, arrivals_in, happens, site_in}
 use Rattle.sct_hub.specs.Hubs.Event.{Cut, Entries, Round}
@@ -81,11 +85,25 @@ abbrev pub entries_by_words : Option (List ℕ × List ℕ) → Option AskedText
 entries_by_words None = None
 entries_by_words (Some parts) = entries_by_two parts.0 (two_parts parts.1)
 
--- what a line asks for, if it is a question that writes a delta text
-abbrev pub asked_in : List ℕ → Option AskedText
-asked_in line =
+abbrev pub plain_asked : List ℕ → Option AskedText
+plain_asked line =
     if pointwise nat_eq (take 10 line) (codes "? entries ") then entries_by_words (two_parts (drop 10 line))
     else option_map ForCut (cut_asked line)
+
+-- the counts of the version vector that a question with a number asks to cut above: it is `cut ` and the text of a version vector
+abbrev pub cut_beside : List ℕ → Option (ℕ → ℕ)
+cut_beside question =
+    if pointwise nat_eq (take 4 question) (codes "cut ")
+    then option_map counts_of (option_and_then vector_in (one_word (drop 4 question)))
+    else None
+
+abbrev pub asked_by : List ℕ → Option (ℕ × List ℕ) → Option AskedText
+asked_by line None = plain_asked line
+asked_by line (Some numbered) = option_map ForCut (cut_beside numbered.1)
+
+-- what a line asks for, if it is a question that writes a delta text: with a number or without
+abbrev pub asked_in : List ℕ → Option AskedText
+asked_in line = asked_by line (numbered_in line)
 
 -- the text that is asked for, of the entries that a site holds
 abbrev pub asked_text : AskedText → List Placed → List ℕ
@@ -158,11 +176,10 @@ file_left file (life ∷ lives) = file_left life.left lives
 
 -- ---- lives of the program
 
--- A life of the program as `serve` sees it: its input and its output before and after, if they are known, and the file that
+-- A life of the program as `serve` sees it: its input, and its output before and after, if they are known, and the file that
 -- it left.
 pub record ServedLife : Type 0 where
   pub unread : Option (List ℕ)
-  pub unread_now : Option (List ℕ)
   pub held : Option (List ℕ)
   pub held_now : Option (List ℕ)
   pub left : List ℕ
@@ -172,14 +189,14 @@ pub record ServedLife : Type 0 where
 abbrev pub AreServed : ℕ → ℕ → List ℕ → List ServedLife → Type 0
 AreServed sites site file [] = Unit {0}
 AreServed sites site file (life ∷ lives) =
-    LifeLeaves (watched_site_kept site sites (recorded file)) (recorded file) life.unread life.unread_now life.held life.held_now life.left
+    LifeLeaves (watched_site_kept site sites (recorded file)) (recorded file) life.unread life.held life.held_now life.left
     × AreServed sites site life.left lives
 
 -- the lives that they are: each with the lines that its site was given for the requests that last
 abbrev pub lives_served : (sites site : ℕ) (file : List ℕ) (served : List ServedLife) → AreServed sites site file served → List Life
 lives_served sites site file [] leaves = []
 lives_served sites site file (life ∷ lives) leaves =
-    record { lasting = grants (core_kept site sites (recorded file)) leaves.0.lasting; left = life.left } ∷ lives_served sites site life.left lives leaves.1
+    record { lasting = grants (core_kept site sites (recorded file)) (lines_of leaves.0.lasting); left = life.left } ∷ lives_served sites site life.left lives leaves.1
 
 -- So lives of the program are lives as the laws have them.
 abbrev pub ServedLivesAreLives : Type 0
@@ -216,8 +233,12 @@ AskedTextsAreWritten =
     → IsAmong (after sites first (events_of (before ++ moment ∷ later))).texts
     (asked_text asked (arrivals_in sites (after sites first (events_of (before ++ moment ∷ []))) moment.site))
 
--- The answer to a question for a text is that text.
+abbrev pub answer_by : WatchedSite → List ℕ → Option (ℕ × List ℕ) → Result (List ℕ) QuestionFault
+answer_by site line None = answer_asked site (drop 2 line)
+answer_by site line (Some numbered) = answer_beside site.core numbered.1
+
+-- The answer to a question for a text is that text. With a number it is given later, and is that of the site as it was.
 abbrev pub TextsAreAnswered : Type 0
 TextsAreAnswered =
     (site : WatchedSite) (line : List ℕ) (asked : AskedText) → asked_in line ≡ Some asked
-    → answer_asked site (drop 2 line) ≡ Ok (asked_text asked site.core.arrivals)
+    → answer_by site line (numbered_in line) ≡ Ok (asked_text asked site.core.arrivals)

@@ -54,7 +54,7 @@ NumberedAnswersAreOfTheSite =
     → (answer_beside site.core question ≡ answer_asked site question) ⊎ (answer_beside site.core question ≡ Err fault.NoQuestion)
 
 -- Both are answers, or both are refused for the same reason.
-abbrev pub AreAlike : Result (List ℕ) QuestionFault → Result (List ℕ) QuestionFault → Type 0
+abbrev pub AreAlike : {E : Type 0} → Result (List ℕ) E → Result (List ℕ) E → Type 0
 AreAlike (Ok text) (Ok other) = Unit {0}
 AreAlike (Ok text) (Err reason) = ⊥
 AreAlike (Err reason) other = other ≡ Err reason

@@ -12,7 +12,7 @@ mod questions;
 mod steps;
 mod words;
 
-pub use numbered::{ask_beside, numbered, refusal_beside};
+pub use numbered::{ask_beside, numbered_parts, refusal_beside};
 pub use questions::{AskResult, QuestionFault, ask};
 pub use steps::{Given, Reply, give_all, give_kept, is_question_line};
 pub use words::first_ended;

@@ -32,7 +32,7 @@ fn question_number(word: &[u8]) -> Option<u64>
 
 /// The number and the question of a line that is `?`, a number of 1 to 9 digits, a space and a question. None if it is not.
 #[tactic(auto, unfolding(crate::specs::NumberedLines::numbered_in))]
-pub fn numbered(line: &[u8]) -> Option<(u64, &[u8])>
+pub fn numbered_parts(line: &[u8]) -> Option<(u64, &[u8])>
     ensures { option_map (λ parts. (parts.0, parts.1.now)) result ≡ numbered_in line.now }
 {
     if !line.starts_with(b"?") {
@@ -48,7 +48,7 @@ pub fn numbered(line: &[u8]) -> Option<(u64, &[u8])>
 pub(crate) fn is_numbered_line(line: &[u8]) -> bool
     ensures { result ≡ is_numbered_line line.now }
 {
-    match numbered(line) {
+    match numbered_parts(line) {
         Some(_) => true,
         None => false,
     }

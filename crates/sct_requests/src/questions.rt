@@ -95,7 +95,11 @@ fn ask_named(site: &mut EmbeddedSite, name: &[u8]) -> Result<AskResult, AllocErr
 }
 
 /// Asks for the report on the list at the end of the words, in which tabs stand for line feeds.
-pub(crate) fn ask_report(alloc: Global, site: &mut EmbeddedSite, words: &[u8]) -> Result<AskResult, AllocError>
+pub(crate) fn ask_report(
+    alloc: Global,
+    site: &mut EmbeddedSite,
+    words: &[u8],
+) -> Result<AskResult, AllocError>
     ensures says { Says (report_asked (messages_of site.old.core.arrivals) (two_parts words.now)) result site.new.answer }
     ensures core { site.new.core ≡ site.old.core }
     ensures watched { site.new.watched ≡ site.old.watched }

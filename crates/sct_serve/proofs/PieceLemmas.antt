@@ -5,16 +5,14 @@ use Rattle.std.specs.List.{list_all}
 use Rattle.std.proofs.lemmas.List.{append-nil, take_at}
 use Rattle.std.proofs.lemmas.Bool.Decides.{nat_tests}
 use Rattle.std.proofs.lemmas.Bool.{cases_eq}
-use Rattle.sct_streams.specs.Stream.{AppendsIfTold, HasReadIfTold}
+use Rattle.sct_streams.specs.Stream.{HasReadIfTold}
 use Rattle.sct_journal.specs.Kept.{AreLines, IsLine, ended_lines, ended_lines_from_byte, recorded}
 use Rattle.sct_journal.proofs.LineLemmas.{ended_line, is_feed, lines_join, no_feed}
-use Rattle.sct_requests.specs.WatchedSites.{WatchedSite}
 use Rattle.sct_requests.specs.Steps.{is_question_line}
-use Rattle.sct_serve.specs.Replies.{replies_to}
-use Rattle.sct_serve.specs.Serving.{AreShort, EndsTaking, HasNoQuestion, HasReadShort, HasReadTooLong, HasTooLong, IsBehind, Leaves, LeavesOf, Replied, Served, Stops, StopsReading, are_within, failed_reads, most_request}
-use Rattle.sct_serve.specs.declared.fault.ServeFault.{ServeFault}
-use Rattle.sct_serve.specs.declared.fault.ServeFault.TheVariants as fault
-use Rattle.sct_serve.proofs.LeaveLemmas.{leaves_after, leaves_none, leaves_of, replied_none, replied_of, replied_on, stops_after, stops_none}
+use Rattle.sct_serve.specs.Events.{Place, Told, lines_of}
+use Rattle.sct_serve.specs.Serving.{AreShort, HasNoQuestion, HasReadShort, HasReadTooLong, HasTooLong, IsAllTold, IsBehind, IsFrontIfTold, Leaves, LeavesOf, Replied, Served, Stops, StopsReading, are_within, most_request}
+use Rattle.sct_serve.proofs.EventLemmas.{lines_on}
+use Rattle.sct_serve.proofs.LeaveLemmas.{leaves_after, leaves_none, leaves_of, replied_none, replied_of, replied_on, replied_told, stops_after, stops_none}
 use Rattle.sct_streams.proofs.StreamLemmas.{read_all, read_nothing, read_on}
 
 -- ---- lines and bytes
@@ -194,6 +192,13 @@ none_join (x ∷ xs) ys past =
 
 -- ---- piece after piece
 
+pub front_if : (u v : Option (List ℕ)) (read : List ℕ) → HasReadIfTold u v read → IsFrontIfTold u read
+front_if None v read taken = tt
+front_if (Some input) v read taken = (taken.0, taken.1.0)
+
+pub front_none : (u : Option (List ℕ)) → IsFrontIfTold u []
+front_none u = front_if u u [] (read_nothing u)
+
 behind_on : (read pending piece next : List ℕ) → IsBehind read pending → IsBehind (pending ++ piece) next → IsBehind (read ++ piece) next
 behind_on read pending piece next first second = record {
   parts = λ more.
@@ -206,7 +211,7 @@ behind_on read pending piece next first second = record {
   none = second.none;
 }
 
-pub served_first : (s m : WatchedSite) (sound : Type 0) (before after : List (List ℕ)) (unread held : Option (List ℕ)) (pending : List ℕ) → m ≡ s → after ≡ before → pending ≡ []
+pub served_first : (s m : Place) (sound : Type 0) (before after : List (List ℕ)) (unread held : Option (List ℕ)) (pending : List ℕ) → m ≡ s → after ≡ before → pending ≡ []
     → Served s m sound before after unread unread held held pending
 served_first s m sound before after unread held pending same kept_same none = record {
   read = [];
@@ -214,10 +219,10 @@ served_first s m sound before after unread held pending same kept_same none = re
   behind = record { parts = λ more. ap (λ (l : List ℕ). ended_lines (l ++ more)) (sym none); none = ap ended_lines none };
   within = refl;
   short = omega (arith, ap length none);
-  replied = subst (λ (t : WatchedSite). Replied s t sound before after held held []) (sym same) (subst (λ (l : List (List ℕ)). Replied s s sound before l held held []) (sym kept_same) (replied_none s sound before held));
+  replied = subst (λ (t : Place). Replied s t sound before after held held []) (sym same) (subst (λ (l : List (List ℕ)). Replied s s sound before l held held []) (sym kept_same) (replied_none s sound before held));
 }
 
-pub served_more : (s m n : WatchedSite) (sound : Type 0) (before mid after : List (List ℕ)) (unread unread_mid unread_now held held_mid held_now : Option (List ℕ)) (pending piece waits : List ℕ)
+pub served_more : (s m n : Place) (sound : Type 0) (before mid after : List (List ℕ)) (unread unread_mid unread_now held held_mid held_now : Option (List ℕ)) (pending piece waits : List ℕ)
     → Served s m sound before mid unread unread_mid held held_mid pending → HasReadIfTold unread_mid unread_now piece
     → Replied m n sound mid after held_mid held_now (ended_lines (pending ++ piece)) → IsBehind (pending ++ piece) waits → are_within (pending ++ piece) ≡ true → length waits ≤ most_request
     → Served s n sound before after unread unread_now held held_now waits
@@ -234,29 +239,29 @@ served_more s m n sound before mid after unread unread_mid unread_now held held_
           (replied_on s m n sound before mid after held held_mid held_now (ended_lines so_far.read) (ended_lines (pending ++ piece)) so_far.replied done);
     }
 
-pub leaves_on : (s m : WatchedSite) (sound : Type 0) (before mid : List (List ℕ)) (unread unread_mid unread_now held held_mid held_now : Option (List ℕ)) (pending piece c : List ℕ)
+pub leaves_on : (s m : Place) (sound : Type 0) (before mid : List (List ℕ)) (unread unread_mid unread_now held held_mid held_now : Option (List ℕ)) (pending piece c : List ℕ)
     → Served s m sound before mid unread unread_mid held held_mid pending → sound → HasReadIfTold unread_mid unread_now piece
-    → Leaves m mid held_mid held_now (ended_lines (pending ++ piece)) c → LeavesOf s before unread unread_now held held_now c
+    → Leaves m mid held_mid held_now (ended_lines (pending ++ piece)) c → LeavesOf s before unread held held_now c
 leaves_on s m sound before mid unread unread_mid unread_now held held_mid held_now pending piece c so_far is given left = record {
   read = so_far.read ++ piece;
-  taken = read_on unread unread_mid unread_now so_far.read piece so_far.taken given;
+  taken = front_if unread unread_now (so_far.read ++ piece) (read_on unread unread_mid unread_now so_far.read piece so_far.taken given);
   leaves =
       leaves_of s before held held_now (ended_lines so_far.read ++ ended_lines (pending ++ piece)) (ended_lines (so_far.read ++ piece)) c (sym (so_far.behind.parts piece))
       (leaves_after s m sound before mid held held_mid held_now (ended_lines so_far.read) (ended_lines (pending ++ piece)) c so_far.replied is left);
 }
 
 -- what is left when nothing more was done
-pub leaves_still : (s m : WatchedSite) (sound : Type 0) (before mid : List (List ℕ)) (unread unread_mid unread_now held told : Option (List ℕ)) (pending piece c : List ℕ)
-    → Served s m sound before mid unread unread_mid held told pending → sound → HasReadIfTold unread_mid unread_now piece → recorded c ≡ mid → LeavesOf s before unread unread_now held told c
+pub leaves_still : (s m : Place) (sound : Type 0) (before mid : List (List ℕ)) (unread unread_mid unread_now held told : Option (List ℕ)) (pending piece c : List ℕ)
+    → Served s m sound before mid unread unread_mid held told pending → sound → HasReadIfTold unread_mid unread_now piece → recorded c ≡ mid → LeavesOf s before unread held told c
 leaves_still s m sound before mid unread unread_mid unread_now held told pending piece c so_far is given same =
     leaves_on s m sound before mid unread unread_mid unread_now held told told pending piece c so_far is given (leaves_none m mid (ended_lines (pending ++ piece)) told c same)
 
-pub too_long_on : (s m : WatchedSite) (sound : Type 0) (before mid : List (List ℕ)) (unread unread_mid unread_now held told : Option (List ℕ)) (pending piece rest : List ℕ)
+pub too_long_on : (s m : Place) (sound : Type 0) (before mid : List (List ℕ)) (unread unread_mid unread_now held told : Option (List ℕ)) (pending piece rest : List ℕ)
     → Served s m sound before mid unread unread_mid held told pending → HasReadIfTold unread_mid unread_now piece
-    → IsBehind (pending ++ piece) rest → HasTooLong (pending ++ piece) rest → HasReadTooLong unread unread_now
+    → IsBehind (pending ++ piece) rest → HasTooLong (pending ++ piece) rest → HasReadTooLong unread
 too_long_on s m sound before mid unread unread_mid unread_now held told pending piece rest so_far given behind long = record {
   read = so_far.read ++ piece;
-  taken = read_on unread unread_mid unread_now so_far.read piece so_far.taken given;
+  taken = front_if unread unread_now (so_far.read ++ piece) (read_on unread unread_mid unread_now so_far.read piece so_far.taken given);
   rest = rest;
   behind = behind_on so_far.read pending piece rest so_far.behind behind;
   long = elim long as (λ _. HasTooLong (so_far.read ++ piece) rest) [
@@ -265,14 +270,33 @@ too_long_on s m sound before mid unread unread_mid unread_now held told pending 
   ];
 }
 
-pub served_all : (s m : WatchedSite) (sound : Type 0) (before after : List (List ℕ)) (unread unread_now held held_now : Option (List ℕ)) (pending : List ℕ)
-    → Served s m sound before after unread unread_now held held_now pending → IfSome unread (λ _. unread_now ≡ Some [])
-    → IfSome unread (λ bytes. AppendsIfTold held held_now (replies_to s (ended_lines bytes)))
-served_all s m sound before after None unread_now held held_now pending so_far end = tt
-served_all s m sound before after (Some left) unread_now held held_now pending so_far end =
-    subst (λ (l : List ℕ). AppendsIfTold held held_now (replies_to s (ended_lines l))) (sym (read_all (Some left) unread_now so_far.read so_far.taken end)) so_far.replied.replied
+pub served_all : (s m : Place) (sound : Type 0) (before after : List (List ℕ)) (unread unread_now held held_now : Option (List ℕ)) (pending : List ℕ)
+    → Served s m sound before after unread unread_now held held_now pending → IfSome unread (λ _. unread_now ≡ Some []) → m.asked ≡ []
+    → IfSome unread (λ bytes. IsAllTold s held held_now [] bytes)
+served_all s m sound before after None unread_now held held_now pending so_far end none = tt
+served_all s m sound before after (Some left) unread_now held held_now pending so_far end none = record {
+  events = so_far.replied.events;
+  may = so_far.replied.may;
+  given = ap ended_lines (read_all (Some left) unread_now so_far.read so_far.taken end) ∙ so_far.replied.given;
+  none = ap (λ (t : Place). t.asked) (sym so_far.replied.ends) ∙ none;
+  written = so_far.replied.replied;
+}
 
-pub served_end : (s m : WatchedSite) (sound : Type 0) (before mid : List (List ℕ)) (unread unread_mid unread_now held told : Option (List ℕ)) (pending : List ℕ)
+-- answers went on
+pub served_told : (s m n : Place) (sound : Type 0) (before mid : List (List ℕ)) (unread unread_mid held held_mid held_now : Option (List ℕ)) (pending : List ℕ)
+    → Served s m sound before mid unread unread_mid held held_mid pending → Told m n held_mid held_now → Served s n sound before mid unread unread_mid held held_now pending
+served_told s m n sound before mid unread unread_mid held held_mid held_now pending so_far told = record {
+  read = so_far.read;
+  taken = so_far.taken;
+  behind = so_far.behind;
+  within = so_far.within;
+  short = so_far.short;
+  replied =
+      replied_of s n sound before mid held held_now (ended_lines so_far.read ++ []) (ended_lines so_far.read) (append-nil (ended_lines so_far.read))
+      (replied_on s m n sound before mid mid held held_mid held_now (ended_lines so_far.read) [] so_far.replied (replied_told m n sound mid held_mid held_now told));
+}
+
+pub served_end : (s m : Place) (sound : Type 0) (before mid : List (List ℕ)) (unread unread_mid unread_now held told : Option (List ℕ)) (pending : List ℕ)
     → Served s m sound before mid unread unread_mid held told pending → HasReadIfTold unread_mid unread_now [] → Served s m sound before mid unread unread_now held told pending
 served_end s m sound before mid unread unread_mid unread_now held told pending so_far given = record {
   read = so_far.read;
@@ -289,7 +313,7 @@ pub short_none : AreShort []
 short_none = record { within = refl; rest = []; behind = record { parts = λ more. refl; none = refl }; short = omega arith }
 
 -- none of the requests of an input that was read whole has too many bytes
-pub short_all : (s m : WatchedSite) (sound : Type 0) (before after : List (List ℕ)) (unread unread_now held held_now : Option (List ℕ)) (pending : List ℕ)
+pub short_all : (s m : Place) (sound : Type 0) (before after : List (List ℕ)) (unread unread_now held held_now : Option (List ℕ)) (pending : List ℕ)
     → Served s m sound before after unread unread_now held held_now pending → IfSome unread (λ _. unread_now ≡ Some []) → IfSome unread AreShort
 short_all s m sound before after None unread_now held held_now pending so_far end = tt
 short_all s m sound before after (Some left) unread_now held held_now pending so_far end =
@@ -297,18 +321,18 @@ short_all s m sound before after (Some left) unread_now held held_now pending so
     (record { within = so_far.within; rest = pending; behind = so_far.behind; short = so_far.short })
 
 -- none had before the last read
-pub short_until : (s m : WatchedSite) (sound : Type 0) (before mid : List (List ℕ)) (unread unread_mid unread_now held told : Option (List ℕ)) (pending piece : List ℕ) (most : ℕ)
-    → Served s m sound before mid unread unread_mid held told pending → HasReadIfTold unread_mid unread_now piece → length piece ≤ most → HasReadShort most unread unread_now
+pub short_until : (s m : Place) (sound : Type 0) (before mid : List (List ℕ)) (unread unread_mid unread_now held told : Option (List ℕ)) (pending piece : List ℕ) (most : ℕ)
+    → Served s m sound before mid unread unread_mid held told pending → HasReadIfTold unread_mid unread_now piece → length piece ≤ most → HasReadShort most unread
 short_until s m sound before mid unread unread_mid unread_now held told pending piece most so_far given few = record {
   front = so_far.read;
   last = piece;
-  taken = read_on unread unread_mid unread_now so_far.read piece so_far.taken given;
+  taken = front_if unread unread_now (so_far.read ++ piece) (read_on unread unread_mid unread_now so_far.read piece so_far.taken given);
   short = record { within = so_far.within; rest = pending; behind = so_far.behind; short = so_far.short };
   most_last = few;
 }
 
-pub short_within : (unread unread_now : Option (List ℕ)) (most more : ℕ) → most ≤ more → HasReadShort most unread unread_now → HasReadShort more unread unread_now
-short_within unread unread_now most more few read = record {
+pub short_within : (unread : Option (List ℕ)) (most more : ℕ) → most ≤ more → HasReadShort most unread → HasReadShort more unread
+short_within unread most more few read = record {
   front = read.front;
   last = read.last;
   taken = read.taken;
@@ -316,22 +340,25 @@ short_within unread unread_now most more few read = record {
   most_last = omega (arith, few, read.most_last);
 }
 
-pub short_unread : (unread : Option (List ℕ)) (most : ℕ) → HasReadShort most unread unread
-short_unread unread most = record { front = []; last = []; taken = read_nothing unread; short = short_none; most_last = omega arith }
+pub short_unread : (unread : Option (List ℕ)) (most : ℕ) → HasReadShort most unread
+short_unread unread most = record { front = []; last = []; taken = front_none unread; short = short_none; most_last = omega arith }
 
 -- ---- the round under way
 
-pub stops_on : (s m : WatchedSite) (sound : Type 0) (before mid : List (List ℕ)) (unread unread_mid unread_now held held_mid held_now : Option (List ℕ)) (pending piece : List ℕ) (most : ℕ) (may_leave : List ℕ → Type 0)
+pub stops_on : (s m : Place) (sound : Type 0) (before mid : List (List ℕ)) (unread unread_mid unread_now held held_mid held_now : Option (List ℕ)) (pending piece : List ℕ) (most : ℕ) (may_leave : List ℕ → Type 0)
     → Served s m sound before mid unread unread_mid held held_mid pending → sound → HasReadIfTold unread_mid unread_now piece → length piece ≤ most
-    → Stops m mid held_mid held_now (ended_lines (pending ++ piece)) may_leave → StopsReading most [] s before unread unread_now held held_now may_leave
+    → Stops m mid held_mid held_now (ended_lines (pending ++ piece)) may_leave → StopsReading most [] s before unread held held_now may_leave
 stops_on s m sound before mid unread unread_mid unread_now held held_mid held_now pending piece most may_leave so_far is given few left =
     let all = stops_after s before m sound mid held held_mid held_now (ended_lines so_far.read) (ended_lines (pending ++ piece)) may_leave so_far.replied is left in
     record {
       front = so_far.read;
       last = piece;
-      taken = read_on unread unread_mid unread_now so_far.read piece so_far.taken given;
+      taken = front_if unread unread_now (so_far.read ++ piece) (read_on unread unread_mid unread_now so_far.read piece so_far.taken given);
       most_last = few;
-      done = left.done;
+      done = all.done;
+      may = all.may;
+      told_last = lines_of left.done;
+      told = lines_on so_far.replied.events left.done ∙ ap (λ (l : List (List ℕ)). l ++ lines_of left.done) (sym so_far.replied.given);
       round = left.round;
       others = left.others;
       parts = so_far.behind.parts piece ∙ all.parts;
@@ -340,18 +367,9 @@ stops_on s m sound before mid unread unread_mid unread_now held held_mid held_no
     }
 
 -- nothing was read since the last round
-pub stops_still : (s m : WatchedSite) (sound : Type 0) (before mid : List (List ℕ)) (unread unread_mid unread_now held told : Option (List ℕ)) (pending : List ℕ) (most : ℕ) (may_leave : List ℕ → Type 0)
+pub stops_still : (s m : Place) (sound : Type 0) (before mid : List (List ℕ)) (unread unread_mid unread_now held told : Option (List ℕ)) (pending : List ℕ) (most : ℕ) (may_leave : List ℕ → Type 0)
     → Served s m sound before mid unread unread_mid held told pending → sound → HasReadIfTold unread_mid unread_now [] → ((c : List ℕ) → may_leave c → recorded c ≡ mid)
-    → StopsReading most [] s before unread unread_now held told may_leave
+    → StopsReading most [] s before unread held told may_leave
 stops_still s m sound before mid unread unread_mid unread_now held told pending most may_leave so_far is given same =
     stops_on s m sound before mid unread unread_mid unread_now held told told pending [] most may_leave so_far is given (omega arith)
     (stops_none m mid told (ended_lines (pending ++ [])) may_leave same)
-
--- ---- faults
-
-pub no_read : (e : ServeFault) → EndsTaking e → failed_reads e ≡ 0
-no_read fault.Memory is = refl
-no_read fault.TooLong is = refl
-no_read fault.Read is = absurd is
-no_read fault.Write is = refl
-no_read (fault.Keeper reason) is = refl

@@ -6,7 +6,7 @@ use Rattle.sct_embed.specs.Embeddings.{Embedding}
 use Rattle.sct_requests.specs.NumberedAnswers.{answer_beside}
 use Rattle.sct_keeper.specs.Keepers.{watched_site_of}
 use Rattle.sct_keeper.specs.declared.keeper.Keeper.{Keeper}
-use Rattle.sct_serve.specs.Events.{Asked, Place, text_of_answer}
+use Rattle.sct_serve.specs.Events.{Asked, Place, at, text_of_answer}
 use Rattle.sct_serve.specs.declared.aside.Aside.{Aside}
 use Rattle.sct_serve.specs.declared.aside.Waiting.{Waiting}
 use Rattle.sct_serve.specs.declared.aside.Current.{Current}
@@ -25,7 +25,7 @@ abbrev pub asked_of : Aside → List Asked
 asked_of aside = asked_now aside.current ++ map asked_waiting aside.waiting.items
 
 abbrev pub place_of : {D : Type 0} → Keeper D → Aside → Place
-place_of keeper aside = record { site = watched_site_of keeper; asked = asked_of aside }
+place_of keeper aside = at (watched_site_of keeper) (asked_of aside)
 
 -- ---- what the open questions are about was held before
 

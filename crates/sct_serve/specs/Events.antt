@@ -23,9 +23,12 @@ pub record Place : Type 0 where
   pub site : WatchedSite
   pub asked : List Asked
 
+abbrev pub at : WatchedSite → List Asked → Place
+at site asked = record { site = site; asked = asked }
+
 -- a site of which no question is open
 abbrev pub alone : WatchedSite → Place
-alone site = record { site = site; asked = [] }
+alone site = at site []
 
 abbrev pub has_number : ℕ → List Asked → Bool
 has_number number asked = list_any (λ a. nat_eq a.number number) asked

@@ -11,7 +11,7 @@ use Rattle.sct_embed.specs.Faults.{embed_fault_number, embed_fault_place}
 use Rattle.sct_requests.specs.Questions.{answer_asked, watched_site_given}
 use Rattle.sct_requests.specs.WatchedSites.{WatchedSite}
 use Rattle.sct_requests.specs.Grants.{answer_to_request}
-use Rattle.sct_requests.specs.Steps.{is_question_line}
+use Rattle.sct_requests.specs.Steps.{is_plain_question}
 use Rattle.sct_requests.specs.declared.steps.Reply.{Reply}
 use Rattle.sct_requests.specs.declared.steps.Reply.TheVariants as answer
 use Rattle.sct_requests.specs.declared.questions.QuestionFault.{QuestionFault}
@@ -51,11 +51,20 @@ reply_line answer = reply_text answer ++ codes "\n"
 abbrev pub place_text : ℕ → List ℕ
 place_text place = if place == 0 then [] else codes " " ++ decimal place
 
--- the number of a refused question, and the place of the fault: `64`, `72`, `73 1`, `48 2`, `80`
+-- the number of a refused question: it is none (64), the site refuses it (48, 72, 73, 79), or its number is open or 16 are (80)
+abbrev pub refusal_number : QuestionFault → ℕ
+refusal_number fault.NoQuestion = 64
+refusal_number fault.OpenQuestions = 80
+refusal_number (fault.Refused reason) = embed_fault_number reason
+
+-- the place of the fault, or 0
+abbrev pub refusal_place : QuestionFault → ℕ
+refusal_place (fault.Refused reason) = embed_fault_place reason
+refusal_place other = 0
+
+-- both: `64`, `72`, `73 1`, `48 2`, `80`
 unfoldable pub question_refusal : QuestionFault → List ℕ
-question_refusal fault.NoQuestion = codes "64"
-question_refusal fault.OpenQuestions = codes "80"
-question_refusal (fault.Refused reason) = decimal (embed_fault_number reason) ++ place_text (embed_fault_place reason)
+question_refusal reason = decimal (refusal_number reason) ++ place_text (refusal_place reason)
 
 -- the reply to a question: the length of the text, a line feed, the text and a line feed; or why the question is refused
 unfoldable pub question_reply : Result (List ℕ) QuestionFault → List ℕ
@@ -67,7 +76,7 @@ question_reply (Err reason) = codes "REFUSED " ++ question_refusal reason ++ cod
 -- the reply to a line, with its line feed
 unfoldable pub reply_to : WatchedSite → List ℕ → List ℕ
 reply_to site line =
-    if is_question_line line then question_reply (answer_asked site (drop 2 line)) else reply_line (answer_to_request site.core line)
+    if is_plain_question line then question_reply (answer_asked site (drop 2 line)) else reply_line (answer_to_request site.core line)
 
 -- the replies to lines, each on the site as it is then
 abbrev pub replies_to : WatchedSite → List (List ℕ) → List ℕ

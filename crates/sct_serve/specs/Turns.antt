@@ -4,7 +4,7 @@ use Rattle.sct_streams.specs.Stream.{HasReadIfTold, Input}
 use Rattle.sct_journal.specs.Kept.{ended_lines}
 use Rattle.sct_beside.specs.Readers.{IsRead, input_of, room_of}
 use Rattle.sct_beside.specs.declared.reading.Reader.{Reader}
-use Rattle.sct_serve.specs.Events.{Place}
+use Rattle.sct_serve.specs.Events.{Place, Told}
 use Rattle.sct_serve.specs.Serving.{HasTooLong, IsBehind, Leaves, Replied, Stops, are_within, most_request}
 use Rattle.sct_serve.specs.declared.serving.Next.{Next}
 use Rattle.sct_serve.specs.declared.serving.Next.TheVariants as next
@@ -30,7 +30,8 @@ pub record Goes {R : Type 0} (state : R → Input) (place now : Place) (sound : 
 pub record Ends {R : Type 0} (state : R → Input) (place now : Place) (sound : Type 0) (before after : List (List ℕ)) (held held_now : Option (List ℕ)) (input : Input) (pending pending_now : List ℕ) (source : R) : Type 0 where
   pub given : HasReadIfTold input.left (state source).left []
   pub end : IfSome input.left (λ _. (state source).left ≡ Some [])
-  pub replied : Replied place now sound before after held held_now []
+  pub told : Told place now held held_now
+  pub kept : after ≡ before
   pub waits : pending_now ≡ pending
   pub reads : (state source).failures ≡ input.failures
 

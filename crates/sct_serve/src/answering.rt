@@ -1,11 +1,16 @@
 //! Requests are answered, and when what they brought is on the disk, their replies are written.
-ghost use Rattle.std.specs.Prelude.{◌≡◌, ◌+◌, ◌≤◌, ◌++◌, ◌∷◌, [], List, ℕ, IfErr, IfSome, IsTrue, Ok, OnErr, OnOk, drop, option_map, true};
+ghost use Rattle.std.specs.Prelude.{◌≡◌, ◌+◌, ◌≤◌, ◌++◌, ◌∷◌, [], List, ℕ, Err, IfErr, IfOk, IfSome, IsTrue, Ok, OnErr, OnOk, drop, option_map, true};
 ghost use Rattle.sqlite_disk.specs.Disk.{MoreFaults};
 ghost use Rattle.sct_streams.specs.Stream.{AppendsIfTold, AppendsPrefixIfTold};
+ghost use Rattle.sct_site.specs.Cores.{Core};
+ghost use Rattle.sct_snapshot.specs.Moments.{IsEarlier};
 ghost use Rattle.sct_journal.specs.Kept.{ended_lines, recorded};
 ghost use Rattle.sct_keeper.specs.Keepers.{IsFull, IsKeeper, core_of_keeper, keeper_disk, watched_site_of};
+ghost use Rattle.sct_requests.specs.NumberedAnswers.{answer_beside};
 ghost use Rattle.sct_requests.specs.Questions.{answer_asked, watched_after};
 ghost use Rattle.sct_requests.specs.Steps.{is_question_line};
+ghost use Rattle.sct_serve.specs.Asides.{AreEarlier, asked_of, place_of};
+ghost use Rattle.sct_serve.specs.Events.{Asked, asked_after, at, numbered_reply, place_given, reply_at};
 ghost use Rattle.sct_serve.specs.Replies.{question_reply};
 ghost use Rattle.sct_serve.specs.Serving.{EndsAnswering, HasNoQuestion, IsGreetingFault, Leaves, Replied, Stops, asked, failed_writes};
 ghost use Rattle.sct_journal.specs.declared.error.JournalError.TheVariants as journal;
@@ -18,11 +23,11 @@ use crate::replies::{write_head, write_refusal, write_replies};
 use crate::rounds::first_round;
 use crate::texts::write_later;
 use sct_keeper::Keeper;
-use sct_requests::{QuestionFault, numbered, refusal_beside};
+use sct_requests::{QuestionFault, numbered_parts, refusal_beside};
 use sct_snapshot::Snapshot;
 use sct_streams::{Failed, Sink, write_all};
 use sqlite_disk::Disk;
-use std::alloc::Global;
+use std::alloc::{AllocError, Global};
 
 /// Writes bytes.
 pub(crate) fn write<K: Sink>(sink: &mut K, bytes: &[u8]) -> Result<(), ServeFault>
@@ -47,18 +52,19 @@ fn answer_lines<D: Disk, K: Sink>(
 ) -> Result<(), ServeFault>
     requires keeper { IsKeeper D.Disk.seen D.Disk.may_leave D.Disk.is_usable D.Disk.is_clean keeper.old }
     requires none { HasNoQuestion (ended_lines lines.now) }
-    ensures replied { OnOk result (Replied (watched_site_of keeper.old) (watched_site_of keeper.new) (IsTrue (D.Disk.is_clean (keeper_disk keeper.old)))
+    ensures replied { OnOk result ((asked : List Asked) → Replied (at (watched_site_of keeper.old) asked) (at (watched_site_of keeper.new) asked) (IsTrue (D.Disk.is_clean (keeper_disk keeper.old)))
         (recorded (D.Disk.seen (keeper_disk keeper.old))) (recorded (D.Disk.seen (keeper_disk keeper.new)))
         (K.state sink.old).held (K.state sink.new).held (ended_lines lines.now)) }
     ensures keeper { OnOk result (IsKeeper D.Disk.seen D.Disk.may_leave D.Disk.is_usable D.Disk.is_clean keeper.new) }
+    ensures later { OnOk result (IsEarlier (core_of_keeper keeper.old) (core_of_keeper keeper.new)) }
     ensures crash { IsTrue (D.Disk.is_clean (keeper_disk keeper.old)) → (c : List ℕ) → D.Disk.may_leave (keeper_disk keeper.new) c
-        → Leaves (watched_site_of keeper.old) (recorded (D.Disk.seen (keeper_disk keeper.old))) (K.state sink.old).held (K.state sink.new).held (ended_lines lines.now) c }
+        → (asked : List Asked) → Leaves (at (watched_site_of keeper.old) asked) (recorded (D.Disk.seen (keeper_disk keeper.old))) (K.state sink.old).held (K.state sink.new).held (ended_lines lines.now) c }
     ensures clean { D.Disk.is_clean (keeper_disk keeper.new) ≡ D.Disk.is_clean (keeper_disk keeper.old) }
     ensures quiet { OnOk result ((K.state sink.new).failures ≡ (K.state sink.old).failures) }
     ensures counted { IfErr result (λ e. (K.state sink.new).failures ≡ (K.state sink.old).failures + failed_writes e) }
     ensures failed { IfErr result (λ e. e ≡ fault.Keeper (error.Journal journal.Disk) → MoreFaults (D.Disk.faults (keeper_disk keeper.old)) (D.Disk.faults (keeper_disk keeper.new))) }
     ensures full { IfErr result (λ e. e ≡ fault.Keeper (error.Journal journal.Full) → IsFull D.Disk.seen D.Disk.is_clean (keeper_disk keeper.new)) }
-    ensures stops { (K.state sink.new).failures ≡ (K.state sink.old).failures → IsTrue (D.Disk.is_clean (keeper_disk keeper.old)) → Stops (watched_site_of keeper.old) (recorded (D.Disk.seen (keeper_disk keeper.old)))
+    ensures stops { (K.state sink.new).failures ≡ (K.state sink.old).failures → IsTrue (D.Disk.is_clean (keeper_disk keeper.old)) → (asked : List Asked) → Stops (at (watched_site_of keeper.old) asked) (recorded (D.Disk.seen (keeper_disk keeper.old)))
         (K.state sink.old).held (K.state sink.new).held (ended_lines lines.now) (D.Disk.may_leave (keeper_disk keeper.new)) }
     ensures faults { D.Disk.faults (keeper_disk keeper.old) ≤ D.Disk.faults (keeper_disk keeper.new) }
     ensures errors { IfErr result EndsAnswering }
@@ -120,16 +126,34 @@ fn answer_question<D: Disk, K: Sink>(
 }
 
 // Writes why a question is refused.
+#[tactic(auto, using(sct_streams::proofs::StreamLemmas::prefix_none))]
 fn write_refused<K: Sink>(
     alloc: Global,
     fault: &QuestionFault,
     sink: &mut K,
-) -> Result<(), ServeFault> {
+) -> Result<(), ServeFault>
+    ensures written { OnOk result (AppendsIfTold (K.state sink.old).held (K.state sink.new).held (question_reply (Err fault.now))) }
+    ensures cut_off { OnErr result (AppendsPrefixIfTold (K.state sink.old).held (K.state sink.new).held (question_reply (Err fault.now))) }
+    ensures quiet { OnOk result ((K.state sink.new).failures ≡ (K.state sink.old).failures) }
+    ensures unwritten { OnErr result ((K.state sink.new).failures ≡ (K.state sink.old).failures → K.state sink.new ≡ K.state sink.old) }
+    ensures counted { IfErr result (λ e. (K.state sink.new).failures ≡ (K.state sink.old).failures + failed_writes e) }
+    ensures errors { IfErr result IsGreetingFault }
+{
     let text = write_refusal(alloc, fault)?;
     write(sink, text.as_bytes())
 }
 
+// The bytes of a question.
+fn copied(alloc: Global, question: &[u8]) -> Result<Vec<u8>, AllocError>
+    ensures { IfOk result (λ copy. copy.items ≡ question.now) }
+{
+    let mut copy = Vec::new(alloc);
+    copy.extend_from_slice(question)?;
+    Ok(copy)
+}
+
 // Opens a question about what a snapshot has, and writes that its answer comes later.
+#[tactic(auto, using(sct_streams::proofs::StreamLemmas::prefix_none, crate::proofs::AskedLemmas::asked_busy, crate::proofs::AskedLemmas::asked_more, crate::proofs::AskedLemmas::reply_busy, crate::proofs::AskedLemmas::reply_later))]
 fn open_question<K: Sink>(
     alloc: Global,
     aside: &mut Aside,
@@ -137,17 +161,27 @@ fn open_question<K: Sink>(
     snapshot: Snapshot,
     question: &[u8],
     sink: &mut K,
-) -> Result<(), ServeFault> {
+) -> Result<(), ServeFault>
+    requires { (text : List ℕ) × (answer_beside snapshot question.now ≡ Ok text) }
+    ensures asked { OnOk result (asked_of aside.new ≡ asked_after (answer_beside snapshot question.now) number (asked_of aside.old)) }
+    ensures earlier { OnOk result ((core : Core) → IsEarlier snapshot core → AreEarlier core aside.old → AreEarlier core aside.new) }
+    ensures written { OnOk result (AppendsIfTold (K.state sink.old).held (K.state sink.new).held (numbered_reply (answer_beside snapshot question.now) number (asked_of aside.old))) }
+    ensures cut_off { OnErr result (AppendsPrefixIfTold (K.state sink.old).held (K.state sink.new).held (numbered_reply (answer_beside snapshot question.now) number (asked_of aside.old))) }
+    ensures quiet { OnOk result ((K.state sink.new).failures ≡ (K.state sink.old).failures) }
+    ensures unwritten { OnErr result ((K.state sink.new).failures ≡ (K.state sink.old).failures → K.state sink.new ≡ K.state sink.old) }
+    ensures counted { IfErr result (λ e. (K.state sink.new).failures ≡ (K.state sink.old).failures + failed_writes e) }
+    ensures errors { IfErr result IsGreetingFault }
+{
     if aside.is_busy(number) {
         return write_refused(alloc, &QuestionFault::OpenQuestions, sink);
     }
-    let mut copy = Vec::new(alloc);
-    copy.extend_from_slice(question)?;
+    let copy = copied(alloc, question)?;
     aside.push(number, snapshot, copy)?;
     write_later(alloc, number, sink)
 }
 
 // A question with a number is opened, or refused.
+#[tactic(auto, using(sct_streams::proofs::StreamLemmas::prefix_none))]
 fn answer_numbered<D: Disk, K: Sink>(
     alloc: Global,
     keeper: &mut Keeper<D>,
@@ -155,11 +189,57 @@ fn answer_numbered<D: Disk, K: Sink>(
     number: u64,
     question: &[u8],
     sink: &mut K,
-) -> Result<(), ServeFault> {
+) -> Result<(), ServeFault>
+    requires keeper { IsKeeper D.Disk.seen D.Disk.may_leave D.Disk.is_usable D.Disk.is_clean keeper.old }
+    requires earlier { AreEarlier (core_of_keeper keeper.old) aside.old }
+    ensures asked { OnOk result (asked_of aside.new ≡ asked_after (answer_beside (core_of_keeper keeper.old) question.now) number (asked_of aside.old)) }
+    ensures earlier { OnOk result (AreEarlier (core_of_keeper keeper.new) aside.new) }
+    ensures written { OnOk result (AppendsIfTold (K.state sink.old).held (K.state sink.new).held (numbered_reply (answer_beside (core_of_keeper keeper.old) question.now) number (asked_of aside.old))) }
+    ensures cut_off { OnErr result (AppendsPrefixIfTold (K.state sink.old).held (K.state sink.new).held (numbered_reply (answer_beside (core_of_keeper keeper.old) question.now) number (asked_of aside.old))) }
+    ensures watched_site { watched_site_of keeper.new ≡ watched_site_of keeper.old }
+    ensures keeper { IsKeeper D.Disk.seen D.Disk.may_leave D.Disk.is_usable D.Disk.is_clean keeper.new }
+    ensures disk { keeper_disk keeper.new ≡ keeper_disk keeper.old }
+    ensures quiet { OnOk result ((K.state sink.new).failures ≡ (K.state sink.old).failures) }
+    ensures unwritten { OnErr result ((K.state sink.new).failures ≡ (K.state sink.old).failures → K.state sink.new ≡ K.state sink.old) }
+    ensures counted { IfErr result (λ e. (K.state sink.new).failures ≡ (K.state sink.old).failures + failed_writes e) }
+    ensures errors { IfErr result IsGreetingFault }
+{
     let snapshot = keeper.snapshot()?;
     match refusal_beside(alloc, &snapshot, question)? {
         Some(fault) => write_refused(alloc, &fault, sink),
         None => open_question(alloc, aside, number, snapshot, question, sink),
+    }
+}
+
+// A question line is answered: with a number, or without.
+#[tactic(auto, using(crate::proofs::QuestionLemmas::numbered_site, crate::proofs::QuestionLemmas::numbered_answer, crate::proofs::QuestionLemmas::plain_site, crate::proofs::QuestionLemmas::plain_answer))]
+fn answer_line<D: Disk, K: Sink>(
+    alloc: Global,
+    keeper: &mut Keeper<D>,
+    aside: &mut Aside,
+    line: &[u8],
+    sink: &mut K,
+) -> Result<(), ServeFault>
+    requires keeper { IsKeeper D.Disk.seen D.Disk.may_leave D.Disk.is_usable D.Disk.is_clean keeper.old }
+    requires earlier { AreEarlier (core_of_keeper keeper.old) aside.old }
+    requires question { is_question_line line.now ≡ true }
+    ensures place { OnOk result (place_of keeper.new aside.new ≡ place_given (place_of keeper.old aside.old) line.now) }
+    ensures earlier { OnOk result (AreEarlier (core_of_keeper keeper.new) aside.new) }
+    ensures written { OnOk result (AppendsIfTold (K.state sink.old).held (K.state sink.new).held (reply_at (place_of keeper.old aside.old) line.now)) }
+    ensures cut_off { OnErr result (AppendsPrefixIfTold (K.state sink.old).held (K.state sink.new).held (reply_at (place_of keeper.old aside.old) line.now)) }
+    ensures keeper { IsKeeper D.Disk.seen D.Disk.may_leave D.Disk.is_usable D.Disk.is_clean keeper.new }
+    ensures disk { keeper_disk keeper.new ≡ keeper_disk keeper.old }
+    ensures quiet { OnOk result ((K.state sink.new).failures ≡ (K.state sink.old).failures) }
+    ensures unwritten { OnErr result ((K.state sink.new).failures ≡ (K.state sink.old).failures → K.state sink.new ≡ K.state sink.old) }
+    ensures counted { IfErr result (λ e. (K.state sink.new).failures ≡ (K.state sink.old).failures + failed_writes e) }
+    ensures errors { IfErr result IsGreetingFault }
+{
+    match numbered_parts(line) {
+        Some((number, question)) => answer_numbered(alloc, keeper, aside, number, question, sink),
+        None => {
+            let (_, question) = line.split_at(2);
+            answer_question(alloc, keeper, question, sink)
+        }
     }
 }
 
@@ -172,20 +252,22 @@ fn answer_if_asked<D: Disk, K: Sink>(
     sink: &mut K,
 ) -> Result<(), ServeFault>
     requires keeper { IsKeeper D.Disk.seen D.Disk.may_leave D.Disk.is_usable D.Disk.is_clean keeper.old }
+    requires earlier { AreEarlier (core_of_keeper keeper.old) aside.old }
     requires question { IfSome question (λ line. is_question_line line.now ≡ true) }
-    ensures replied { OnOk result (Replied (watched_site_of keeper.old) (watched_site_of keeper.new) (IsTrue (D.Disk.is_clean (keeper_disk keeper.old)))
+    ensures replied { OnOk result (Replied (place_of keeper.old aside.old) (place_of keeper.new aside.new) (IsTrue (D.Disk.is_clean (keeper_disk keeper.old)))
         (recorded (D.Disk.seen (keeper_disk keeper.old))) (recorded (D.Disk.seen (keeper_disk keeper.new)))
         (K.state sink.old).held (K.state sink.new).held (asked (option_map (λ line. line.now) question.entry))) }
     ensures keeper { OnOk result (IsKeeper D.Disk.seen D.Disk.may_leave D.Disk.is_usable D.Disk.is_clean keeper.new) }
+    ensures earlier { OnOk result (AreEarlier (core_of_keeper keeper.new) aside.new) }
     ensures crash { IsTrue (D.Disk.is_clean (keeper_disk keeper.old)) → (c : List ℕ) → D.Disk.may_leave (keeper_disk keeper.new) c
-        → Leaves (watched_site_of keeper.old) (recorded (D.Disk.seen (keeper_disk keeper.old))) (K.state sink.old).held (K.state sink.new).held
+        → Leaves (place_of keeper.old aside.old) (recorded (D.Disk.seen (keeper_disk keeper.old))) (K.state sink.old).held (K.state sink.new).held
         (asked (option_map (λ line. line.now) question.entry)) c }
     ensures clean { D.Disk.is_clean (keeper_disk keeper.new) ≡ D.Disk.is_clean (keeper_disk keeper.old) }
     ensures quiet { OnOk result ((K.state sink.new).failures ≡ (K.state sink.old).failures) }
     ensures counted { IfErr result (λ e. (K.state sink.new).failures ≡ (K.state sink.old).failures + failed_writes e) }
     ensures failed { IfErr result (λ e. e ≡ fault.Keeper (error.Journal journal.Disk) → MoreFaults (D.Disk.faults (keeper_disk keeper.old)) (D.Disk.faults (keeper_disk keeper.new))) }
     ensures full { IfErr result (λ e. e ≡ fault.Keeper (error.Journal journal.Full) → IsFull D.Disk.seen D.Disk.is_clean (keeper_disk keeper.new)) }
-    ensures stops { (K.state sink.new).failures ≡ (K.state sink.old).failures → IsTrue (D.Disk.is_clean (keeper_disk keeper.old)) → Stops (watched_site_of keeper.old) (recorded (D.Disk.seen (keeper_disk keeper.old)))
+    ensures stops { (K.state sink.new).failures ≡ (K.state sink.old).failures → IsTrue (D.Disk.is_clean (keeper_disk keeper.old)) → Stops (place_of keeper.old aside.old) (recorded (D.Disk.seen (keeper_disk keeper.old)))
         (K.state sink.old).held (K.state sink.new).held (asked (option_map (λ line. line.now) question.entry)) (D.Disk.may_leave (keeper_disk keeper.new)) }
     ensures faults { D.Disk.faults (keeper_disk keeper.old) ≤ D.Disk.faults (keeper_disk keeper.new) }
     ensures errors { IfErr result EndsAnswering }
@@ -193,11 +275,7 @@ fn answer_if_asked<D: Disk, K: Sink>(
     let Some(line) = question else {
         return Ok(());
     };
-    if let Some((number, question)) = numbered(line) {
-        return answer_numbered(alloc, keeper, aside, number, question, sink);
-    }
-    let (_, question) = line.split_at(2);
-    answer_question(alloc, keeper, question, sink)?;
+    answer_line(alloc, keeper, aside, line, sink)?;
     Ok(())
 }
 
@@ -211,18 +289,20 @@ pub(crate) fn answer_text<D: Disk, K: Sink>(
     sink: &mut K,
 ) -> Result<(), ServeFault>
     requires keeper { IsKeeper D.Disk.seen D.Disk.may_leave D.Disk.is_usable D.Disk.is_clean keeper.old }
-    ensures replied { OnOk result (Replied (watched_site_of keeper.old) (watched_site_of keeper.new) (IsTrue (D.Disk.is_clean (keeper_disk keeper.old)))
+    requires earlier { AreEarlier (core_of_keeper keeper.old) aside.old }
+    ensures replied { OnOk result (Replied (place_of keeper.old aside.old) (place_of keeper.new aside.new) (IsTrue (D.Disk.is_clean (keeper_disk keeper.old)))
         (recorded (D.Disk.seen (keeper_disk keeper.old))) (recorded (D.Disk.seen (keeper_disk keeper.new)))
         (K.state sink.old).held (K.state sink.new).held (ended_lines text.now)) }
     ensures keeper { OnOk result (IsKeeper D.Disk.seen D.Disk.may_leave D.Disk.is_usable D.Disk.is_clean keeper.new) }
+    ensures earlier { OnOk result (AreEarlier (core_of_keeper keeper.new) aside.new) }
     ensures crash { IsTrue (D.Disk.is_clean (keeper_disk keeper.old)) → (c : List ℕ) → D.Disk.may_leave (keeper_disk keeper.new) c
-        → Leaves (watched_site_of keeper.old) (recorded (D.Disk.seen (keeper_disk keeper.old))) (K.state sink.old).held (K.state sink.new).held (ended_lines text.now) c }
+        → Leaves (place_of keeper.old aside.old) (recorded (D.Disk.seen (keeper_disk keeper.old))) (K.state sink.old).held (K.state sink.new).held (ended_lines text.now) c }
     ensures clean { D.Disk.is_clean (keeper_disk keeper.new) ≡ D.Disk.is_clean (keeper_disk keeper.old) }
     ensures quiet { OnOk result ((K.state sink.new).failures ≡ (K.state sink.old).failures) }
     ensures counted { IfErr result (λ e. (K.state sink.new).failures ≡ (K.state sink.old).failures + failed_writes e) }
     ensures failed { IfErr result (λ e. e ≡ fault.Keeper (error.Journal journal.Disk) → MoreFaults (D.Disk.faults (keeper_disk keeper.old)) (D.Disk.faults (keeper_disk keeper.new))) }
     ensures full { IfErr result (λ e. e ≡ fault.Keeper (error.Journal journal.Full) → IsFull D.Disk.seen D.Disk.is_clean (keeper_disk keeper.new)) }
-    ensures stops { (K.state sink.new).failures ≡ (K.state sink.old).failures → IsTrue (D.Disk.is_clean (keeper_disk keeper.old)) → Stops (watched_site_of keeper.old) (recorded (D.Disk.seen (keeper_disk keeper.old)))
+    ensures stops { (K.state sink.new).failures ≡ (K.state sink.old).failures → IsTrue (D.Disk.is_clean (keeper_disk keeper.old)) → Stops (place_of keeper.old aside.old) (recorded (D.Disk.seen (keeper_disk keeper.old)))
         (K.state sink.old).held (K.state sink.new).held (ended_lines text.now) (D.Disk.may_leave (keeper_disk keeper.new)) }
     ensures faults { D.Disk.faults (keeper_disk keeper.old) ≤ D.Disk.faults (keeper_disk keeper.new) }
     ensures errors { IfErr result EndsAnswering }

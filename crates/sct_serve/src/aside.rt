@@ -7,7 +7,8 @@ ghost use Rattle.sct_requests.specs.WatchedSites.{WatchedSite};
 ghost use Rattle.sct_requests.specs.NumberedAnswers.{answer_beside};
 ghost use Rattle.sct_beside.specs.Answers.{IsAnswered};
 ghost use Rattle.sct_serve.specs.Asides.{AreEarlier, asked_now, asked_of, asked_waiting};
-ghost use Rattle.sct_serve.specs.Events.{CutOff, EndsWhole, Told, has_number, is_busy, most_part, text_of_answer};
+ghost use Rattle.sct_serve.specs.Events.{CutOff, EndsWhole, Told, at, has_number, is_busy, most_part, text_of_answer};
+ghost use Rattle.sct_serve.specs.Events.{at as at_place};
 ghost use Rattle.sct_serve.specs.Serving.{IsGreetingFault, failed_writes};
 ghost use Rattle.sct_serve.specs.declared.aside.Current.TheVariants as current;
 
@@ -157,6 +158,8 @@ impl Aside {
         ensures some { IfSome result (λ first. map asked_waiting self.old.waiting.items ≡ asked_waiting first ∷ map asked_waiting self.new.waiting.items) }
         ensures none { IfNone result (self.new ≡ self.old) }
         ensures current { self.new.current ≡ self.old.current }
+        ensures earlier { (core : Core) → AreEarlier core self.old → AreEarlier core self.new }
+        ensures first { (core : Core) → AreEarlier core self.old → IfSome result (λ first. IsEarlier first.snapshot core) }
     {
         if self.waiting.is_empty() {
             return None;
@@ -202,13 +205,24 @@ impl Aside {
     }
 
     // The answer to the first question is there: it is written next. Or memory ran out for it, and that is written.
+    #[tactic(auto, using(crate::proofs::EventLemmas::told_same, crate::proofs::EventLemmas::told_failed, crate::proofs::EventLemmas::cut_failed))]
     fn set<K: Sink>(
         &mut self,
         alloc: Global,
         number: u64,
         made: Made,
         sink: &mut K,
-    ) -> Result<(), ServeFault> {
+    ) -> Result<(), ServeFault>
+        requires { self.old.current ≡ current.Nothing }
+        ensures told { OnOk result ((site : WatchedSite) (left : List ℕ) → IfOk made (λ it. it.answer ≡ left)
+            → Told (at site (record { number = number; left = left } ∷ map asked_waiting self.old.waiting.items)) (at site (asked_of self.new)) (K.state sink.old).held (K.state sink.new).held) }
+        ensures cut_off { OnErr result ((site : WatchedSite) (left : List ℕ) → CutOff (at site (record { number = number; left = left } ∷ map asked_waiting self.old.waiting.items)) (K.state sink.old).held (K.state sink.new).held) }
+        ensures whole { OnErr result ((K.state sink.new).failures ≡ (K.state sink.old).failures → (site : WatchedSite) (left : List ℕ) → EndsWhole (at site (record { number = number; left = left } ∷ map asked_waiting self.old.waiting.items)) (K.state sink.old).held (K.state sink.new).held) }
+        ensures earlier { OnOk result ((core : Core) → AreEarlier core self.old → IfOk made (λ it. IsEarlier it.core core) → AreEarlier core self.new) }
+        ensures quiet { OnOk result ((K.state sink.new).failures ≡ (K.state sink.old).failures) }
+        ensures counted { IfErr result (λ e. (K.state sink.new).failures ≡ (K.state sink.old).failures + failed_writes e) }
+        ensures errors { IfErr result IsGreetingFault }
+    {
         match made {
             Ok(site) => {
                 self.current = Current::Telling {
@@ -218,12 +232,20 @@ impl Aside {
                 };
                 Ok(())
             }
-            Err(_) => write_failed(alloc, number, sink),
+            Err(_) => match write_failed(alloc, number, sink) {
+                Ok(()) => Ok(()),
+                Err(fault) => Err(fault),
+            },
         }
     }
 
     // The site that made the last answer, if it holds no more than a snapshot has.
-    fn follower_for(&mut self, snapshot: &Snapshot) -> Option<EmbeddedSite> {
+    fn follower_for(&mut self, snapshot: &Snapshot) -> Option<EmbeddedSite>
+        ensures current { self.new.current ≡ self.old.current }
+        ensures waiting { self.new.waiting ≡ self.old.waiting }
+        ensures earlier { (core : Core) → AreEarlier core self.old → AreEarlier core self.new }
+        ensures follower { (core : Core) → AreEarlier core self.old → IsEarlier snapshot.now core → IfSome result (λ site. IsEarlier site.core snapshot.now) }
+    {
         match self.follower.take() {
             Some(site) if site.count() <= snapshot.count() => Some(site),
             _ => None,
@@ -231,6 +253,7 @@ impl Aside {
     }
 
     // Starts to make the answer to the first question that waits, if none is being made or written.
+    #[tactic(auto, using(crate::proofs::EventLemmas::told_none, crate::proofs::EventLemmas::told_same))]
     fn begin<K: Sink, H: Threads + Wait + Copy + Send + 'static>(
         &mut self,
         rt: &H,
@@ -238,7 +261,16 @@ impl Aside {
         bell: &Sender<Wake>,
         bells: &Receiver<Wake>,
         sink: &mut K,
-    ) -> Result<(), ServeFault> {
+    ) -> Result<(), ServeFault>
+        requires { (core : Core) × AreEarlier core self.old }
+        ensures told { OnOk result ((site : WatchedSite) → Told (at site (asked_of self.old)) (at site (asked_of self.new)) (K.state sink.old).held (K.state sink.new).held) }
+        ensures cut_off { OnErr result ((site : WatchedSite) → CutOff (at site (asked_of self.old)) (K.state sink.old).held (K.state sink.new).held) }
+        ensures whole { OnErr result ((K.state sink.new).failures ≡ (K.state sink.old).failures → (site : WatchedSite) → EndsWhole (at site (asked_of self.old)) (K.state sink.old).held (K.state sink.new).held) }
+        ensures earlier { OnOk result ((core : Core) → AreEarlier core self.old → AreEarlier core self.new) }
+        ensures quiet { OnOk result ((K.state sink.new).failures ≡ (K.state sink.old).failures) }
+        ensures counted { IfErr result (λ e. (K.state sink.new).failures ≡ (K.state sink.old).failures + failed_writes e) }
+        ensures errors { IfErr result IsGreetingFault }
+    {
         if !self.is_resting() {
             return Ok(());
         }
@@ -260,12 +292,25 @@ impl Aside {
                 };
                 Ok(())
             }
-            Err(made) => self.set(alloc, number, made, sink),
+            Err(made) => match self.set(alloc, number, made, sink) {
+                Ok(()) => Ok(()),
+                Err(fault) => Err(fault),
+            },
         }
     }
 
     // Makes the answer to the first question that waits, if none is being made or written.
-    fn make<K: Sink>(&mut self, alloc: Global, sink: &mut K) -> Result<(), ServeFault> {
+    #[tactic(auto, using(crate::proofs::EventLemmas::told_none, crate::proofs::EventLemmas::told_same))]
+    fn make<K: Sink>(&mut self, alloc: Global, sink: &mut K) -> Result<(), ServeFault>
+        requires { (core : Core) × AreEarlier core self.old }
+        ensures told { OnOk result ((site : WatchedSite) → Told (at site (asked_of self.old)) (at site (asked_of self.new)) (K.state sink.old).held (K.state sink.new).held) }
+        ensures cut_off { OnErr result ((site : WatchedSite) → CutOff (at site (asked_of self.old)) (K.state sink.old).held (K.state sink.new).held) }
+        ensures whole { OnErr result ((K.state sink.new).failures ≡ (K.state sink.old).failures → (site : WatchedSite) → EndsWhole (at site (asked_of self.old)) (K.state sink.old).held (K.state sink.new).held) }
+        ensures earlier { OnOk result ((core : Core) → AreEarlier core self.old → AreEarlier core self.new) }
+        ensures quiet { OnOk result ((K.state sink.new).failures ≡ (K.state sink.old).failures) }
+        ensures counted { IfErr result (λ e. (K.state sink.new).failures ≡ (K.state sink.old).failures + failed_writes e) }
+        ensures errors { IfErr result IsGreetingFault }
+    {
         if !self.is_resting() {
             return Ok(());
         }
@@ -279,20 +324,35 @@ impl Aside {
         } = first;
         let follower = self.follower_for(&snapshot);
         let made = answer(alloc, snapshot, question, follower);
-        self.set(alloc, number, made, sink)
+        match self.set(alloc, number, made, sink) {
+            Ok(()) => Ok(()),
+            Err(fault) => Err(fault),
+        }
     }
 
     // Waits for the thread that makes an answer.
+    #[tactic(auto, using(crate::proofs::EventLemmas::told_none, crate::proofs::EventLemmas::told_same))]
     fn collect<K: Sink, H: Threads>(
         &mut self,
         rt: &H,
         alloc: Global,
         sink: &mut K,
-    ) -> Result<(), ServeFault> {
+    ) -> Result<(), ServeFault>
+        ensures told { OnOk result ((site : WatchedSite) → Told (at site (asked_of self.old)) (at site (asked_of self.new)) (K.state sink.old).held (K.state sink.new).held) }
+        ensures cut_off { OnErr result ((site : WatchedSite) → CutOff (at site (asked_of self.old)) (K.state sink.old).held (K.state sink.new).held) }
+        ensures whole { OnErr result ((K.state sink.new).failures ≡ (K.state sink.old).failures → (site : WatchedSite) → EndsWhole (at site (asked_of self.old)) (K.state sink.old).held (K.state sink.new).held) }
+        ensures earlier { OnOk result ((core : Core) → AreEarlier core self.old → AreEarlier core self.new) }
+        ensures quiet { OnOk result ((K.state sink.new).failures ≡ (K.state sink.old).failures) }
+        ensures counted { IfErr result (λ e. (K.state sink.new).failures ≡ (K.state sink.old).failures + failed_writes e) }
+        ensures errors { IfErr result IsGreetingFault }
+    {
         match replace(&mut self.current, Current::Nothing) {
             Current::Making { number, making, .. } => {
                 let made = making.join(rt);
-                self.set(alloc, number, made, sink)
+                match self.set(alloc, number, made, sink) {
+                    Ok(()) => Ok(()),
+                    Err(fault) => Err(fault),
+                }
             }
             other => {
                 self.current = other;
@@ -302,6 +362,7 @@ impl Aside {
     }
 
     // Writes the next part of a text, or that it is written.
+    #[tactic(auto, using(crate::proofs::EventLemmas::told_part_at, crate::proofs::EventLemmas::cut_part_at, crate::proofs::EventLemmas::told_end_at, crate::proofs::EventLemmas::cut_end_at))]
     fn tell_from<K: Sink>(
         &mut self,
         alloc: Global,
@@ -309,29 +370,58 @@ impl Aside {
         site: EmbeddedSite,
         at: usize,
         sink: &mut K,
-    ) -> Result<(), ServeFault> {
-        let text = site.answer();
-        if at >= text.len() {
+    ) -> Result<(), ServeFault>
+        requires { self.old.current ≡ current.Nothing }
+        ensures told { OnOk result ((place : WatchedSite) → Told (at_place place (record { number = number; left = drop at site.answer } ∷ map asked_waiting self.old.waiting.items)) (at_place place (asked_of self.new)) (K.state sink.old).held (K.state sink.new).held) }
+        ensures cut_off { OnErr result ((place : WatchedSite) → CutOff (at_place place (record { number = number; left = drop at site.answer } ∷ map asked_waiting self.old.waiting.items)) (K.state sink.old).held (K.state sink.new).held) }
+        ensures whole { OnErr result ((K.state sink.new).failures ≡ (K.state sink.old).failures → (place : WatchedSite) → EndsWhole (at_place place (record { number = number; left = drop at site.answer } ∷ map asked_waiting self.old.waiting.items)) (K.state sink.old).held (K.state sink.new).held) }
+        ensures earlier { OnOk result ((core : Core) → AreEarlier core self.old → IsEarlier site.core core → AreEarlier core self.new) }
+        ensures quiet { OnOk result ((K.state sink.new).failures ≡ (K.state sink.old).failures) }
+        ensures counted { IfErr result (λ e. (K.state sink.new).failures ≡ (K.state sink.old).failures + failed_writes e) }
+        ensures errors { IfErr result IsGreetingFault }
+    {
+        if at >= site.answer().len() {
             let mut site = site;
             site.end_answer();
             self.follower = Some(site);
-            return write_end(alloc, number, sink);
+            return match write_end(alloc, number, sink) {
+                Ok(()) => Ok(()),
+                Err(fault) => Err(fault),
+            };
         }
-        let part = next_part(text, at);
+        let part = next_part(site.answer(), at);
         let after = at + part.len();
-        write_part(alloc, number, part, sink)?;
-        self.current = Current::Telling {
-            number,
-            site,
-            at: after,
-        };
-        Ok(())
+        match write_part(alloc, number, part, sink) {
+            Ok(()) => {
+                self.current = Current::Telling {
+                    number,
+                    site,
+                    at: after,
+                };
+                Ok(())
+            }
+            Err(fault) => Err(fault),
+        }
     }
 
     // Writes the next part of the answer that is there, or that it is written.
-    fn tell<K: Sink>(&mut self, alloc: Global, sink: &mut K) -> Result<(), ServeFault> {
+    #[tactic(auto, using(crate::proofs::EventLemmas::told_none, crate::proofs::EventLemmas::told_same))]
+    fn tell<K: Sink>(&mut self, alloc: Global, sink: &mut K) -> Result<(), ServeFault>
+        ensures told { OnOk result ((site : WatchedSite) → Told (at site (asked_of self.old)) (at site (asked_of self.new)) (K.state sink.old).held (K.state sink.new).held) }
+        ensures cut_off { OnErr result ((site : WatchedSite) → CutOff (at site (asked_of self.old)) (K.state sink.old).held (K.state sink.new).held) }
+        ensures whole { OnErr result ((K.state sink.new).failures ≡ (K.state sink.old).failures → (site : WatchedSite) → EndsWhole (at site (asked_of self.old)) (K.state sink.old).held (K.state sink.new).held) }
+        ensures earlier { OnOk result ((core : Core) → AreEarlier core self.old → AreEarlier core self.new) }
+        ensures quiet { OnOk result ((K.state sink.new).failures ≡ (K.state sink.old).failures) }
+        ensures counted { IfErr result (λ e. (K.state sink.new).failures ≡ (K.state sink.old).failures + failed_writes e) }
+        ensures errors { IfErr result IsGreetingFault }
+    {
         match replace(&mut self.current, Current::Nothing) {
-            Current::Telling { number, site, at } => self.tell_from(alloc, number, site, at, sink),
+            Current::Telling { number, site, at } => {
+                match self.tell_from(alloc, number, site, at, sink) {
+                    Ok(()) => Ok(()),
+                    Err(fault) => Err(fault),
+                }
+            }
             other => {
                 self.current = other;
                 Ok(())
@@ -340,6 +430,7 @@ impl Aside {
     }
 
     /// Goes on with the answer to the first open question: it is begun, or was made, or one part is written.
+    #[tactic(auto, using(crate::proofs::EventLemmas::told_then, crate::proofs::EventLemmas::cut_then, crate::proofs::EventLemmas::whole_then, crate::proofs::EventLemmas::told_none))]
     pub(crate) fn go_on<K: Sink, H: Threads + Wait + Copy + Send + 'static>(
         &mut self,
         rt: &H,
@@ -347,24 +438,57 @@ impl Aside {
         bell: &Sender<Wake>,
         bells: &Receiver<Wake>,
         sink: &mut K,
-    ) -> Result<(), ServeFault> {
+    ) -> Result<(), ServeFault>
+        requires { (core : Core) × AreEarlier core self.old }
+        ensures told { OnOk result ((site : WatchedSite) → Told (at site (asked_of self.old)) (at site (asked_of self.new)) (K.state sink.old).held (K.state sink.new).held) }
+        ensures cut_off { OnErr result ((site : WatchedSite) → CutOff (at site (asked_of self.old)) (K.state sink.old).held (K.state sink.new).held) }
+        ensures whole { OnErr result ((K.state sink.new).failures ≡ (K.state sink.old).failures → (site : WatchedSite) → EndsWhole (at site (asked_of self.old)) (K.state sink.old).held (K.state sink.new).held) }
+        ensures earlier { OnOk result ((core : Core) → AreEarlier core self.old → AreEarlier core self.new) }
+        ensures quiet { OnOk result ((K.state sink.new).failures ≡ (K.state sink.old).failures) }
+        ensures counted { IfErr result (λ e. (K.state sink.new).failures ≡ (K.state sink.old).failures + failed_writes e) }
+        ensures errors { IfErr result IsGreetingFault }
+    {
         if self.has_rung() {
-            self.collect(rt, alloc, sink)?;
+            if let Err(fault) = self.collect(rt, alloc, sink) {
+                return Err(fault);
+            }
         }
-        self.begin(rt, alloc, bell, bells, sink)?;
-        self.tell(alloc, sink)
+        if let Err(fault) = self.begin(rt, alloc, bell, bells, sink) {
+            return Err(fault);
+        }
+        match self.tell(alloc, sink) {
+            Ok(()) => Ok(()),
+            Err(fault) => Err(fault),
+        }
     }
 
     // The answer to the first open question is made here, or waited for, or one part is written.
+    #[tactic(auto, using(crate::proofs::EventLemmas::told_then, crate::proofs::EventLemmas::cut_then, crate::proofs::EventLemmas::whole_then))]
     fn end_one<K: Sink, H: Threads>(
         &mut self,
         rt: &H,
         alloc: Global,
         sink: &mut K,
-    ) -> Result<(), ServeFault> {
-        self.collect(rt, alloc, sink)?;
-        self.make(alloc, sink)?;
-        self.tell(alloc, sink)
+    ) -> Result<(), ServeFault>
+        requires { (core : Core) × AreEarlier core self.old }
+        ensures told { OnOk result ((site : WatchedSite) → Told (at site (asked_of self.old)) (at site (asked_of self.new)) (K.state sink.old).held (K.state sink.new).held) }
+        ensures cut_off { OnErr result ((site : WatchedSite) → CutOff (at site (asked_of self.old)) (K.state sink.old).held (K.state sink.new).held) }
+        ensures whole { OnErr result ((K.state sink.new).failures ≡ (K.state sink.old).failures → (site : WatchedSite) → EndsWhole (at site (asked_of self.old)) (K.state sink.old).held (K.state sink.new).held) }
+        ensures earlier { OnOk result ((core : Core) → AreEarlier core self.old → AreEarlier core self.new) }
+        ensures quiet { OnOk result ((K.state sink.new).failures ≡ (K.state sink.old).failures) }
+        ensures counted { IfErr result (λ e. (K.state sink.new).failures ≡ (K.state sink.old).failures + failed_writes e) }
+        ensures errors { IfErr result IsGreetingFault }
+    {
+        if let Err(fault) = self.collect(rt, alloc, sink) {
+            return Err(fault);
+        }
+        if let Err(fault) = self.make(alloc, sink) {
+            return Err(fault);
+        }
+        match self.tell(alloc, sink) {
+            Ok(()) => Ok(()),
+            Err(fault) => Err(fault),
+        }
     }
 
     /// Answers all open questions, one after the other. No thread is begun, since nothing else comes, and no ring is listened for.
@@ -373,12 +497,24 @@ impl Aside {
         rt: &H,
         alloc: Global,
         sink: &mut K,
-    ) -> Result<(), ServeFault> {
+    ) -> Result<(), ServeFault>
+        requires { (core : Core) × AreEarlier core self.old }
+        ensures told { OnOk result ((site : WatchedSite) → Told (at site (asked_of self.old)) (at site (asked_of self.new)) (K.state sink.old).held (K.state sink.new).held) }
+        ensures cut_off { OnErr result ((site : WatchedSite) → CutOff (at site (asked_of self.old)) (K.state sink.old).held (K.state sink.new).held) }
+        ensures whole { OnErr result ((K.state sink.new).failures ≡ (K.state sink.old).failures → (site : WatchedSite) → EndsWhole (at site (asked_of self.old)) (K.state sink.old).held (K.state sink.new).held) }
+        ensures earlier { OnOk result ((core : Core) → AreEarlier core self.old → AreEarlier core self.new) }
+        ensures quiet { OnOk result ((K.state sink.new).failures ≡ (K.state sink.old).failures) }
+        ensures counted { IfErr result (λ e. (K.state sink.new).failures ≡ (K.state sink.old).failures + failed_writes e) }
+        ensures errors { IfErr result IsGreetingFault }
+        ensures ended { OnOk result (asked_of self.new ≡ []) }
+    {
         for _ in 0..u64::MAX {
             if self.is_idle() {
                 return Ok(());
             }
-            self.end_one(rt, alloc, sink)?;
+            if let Err(fault) = self.end_one(rt, alloc, sink) {
+                return Err(fault);
+            }
         }
         Err(ServeFault::Memory)
     }

@@ -7,6 +7,7 @@
 mod answering;
 mod aside;
 mod fault;
+pub mod laws;
 mod life;
 mod pieces;
 mod replies;

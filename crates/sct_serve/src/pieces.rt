@@ -4,7 +4,8 @@ ghost use Rattle.sqlite_disk.specs.Disk.{MoreFaults};
 ghost use Rattle.sct_journal.specs.Kept.{ended_lines, recorded};
 ghost use Rattle.sct_journal.specs.declared.error.JournalError.TheVariants as journal;
 ghost use Rattle.sct_keeper.specs.declared.fault.KeeperError.TheVariants as error;
-ghost use Rattle.sct_keeper.specs.Keepers.{IsFull, IsKeeper, keeper_disk, watched_site_of};
+ghost use Rattle.sct_keeper.specs.Keepers.{IsFull, IsKeeper, core_of_keeper, keeper_disk};
+ghost use Rattle.sct_serve.specs.Asides.{AreEarlier, place_of};
 ghost use Rattle.sct_serve.specs.Serving.{EndsTaking, HasTooLong, IsBehind, Leaves, Replied, Stops, are_within, failed_writes, most_request};
 ghost use Rattle.sct_serve.specs.declared.fault.ServeFault.TheVariants as fault;
 
@@ -59,9 +60,10 @@ fn take_ended<D: Disk, K: Sink>(
     sink: &mut K,
 ) -> Result<(), ServeFault>
     requires keeper { IsKeeper D.Disk.seen D.Disk.may_leave D.Disk.is_usable D.Disk.is_clean keeper.old }
+    requires earlier { AreEarlier (core_of_keeper keeper.old) aside.old }
     requires ended { (front : List ℕ) × (ended.now ≡ front ++ 10 ∷ []) }
     requires rest { ended_lines rest.now ≡ [] }
-    ensures replied { OnOk result (Replied (watched_site_of keeper.old) (watched_site_of keeper.new) (IsTrue (D.Disk.is_clean (keeper_disk keeper.old)))
+    ensures replied { OnOk result (Replied (place_of keeper.old aside.old) (place_of keeper.new aside.new) (IsTrue (D.Disk.is_clean (keeper_disk keeper.old)))
         (recorded (D.Disk.seen (keeper_disk keeper.old))) (recorded (D.Disk.seen (keeper_disk keeper.new)))
         (K.state sink.old).held (K.state sink.new).held (ended_lines ((pending.old.items ++ ended.now) ++ rest.now))) }
     ensures waits { OnOk result (IsBehind ((pending.old.items ++ ended.now) ++ rest.now) pending.new.items) }
@@ -69,15 +71,16 @@ fn take_ended<D: Disk, K: Sink>(
     ensures within { OnOk result (are_within ((pending.old.items ++ ended.now) ++ rest.now) ≡ true) }
     ensures too_long { result ≡ Err fault.TooLong → (left : List ℕ) × (IsBehind ((pending.old.items ++ ended.now) ++ rest.now) left × HasTooLong ((pending.old.items ++ ended.now) ++ rest.now) left) }
     ensures keeper { OnOk result (IsKeeper D.Disk.seen D.Disk.may_leave D.Disk.is_usable D.Disk.is_clean keeper.new) }
+    ensures earlier { OnOk result (AreEarlier (core_of_keeper keeper.new) aside.new) }
     ensures crash { IsTrue (D.Disk.is_clean (keeper_disk keeper.old)) → (c : List ℕ) → D.Disk.may_leave (keeper_disk keeper.new) c
-        → Leaves (watched_site_of keeper.old) (recorded (D.Disk.seen (keeper_disk keeper.old))) (K.state sink.old).held (K.state sink.new).held
+        → Leaves (place_of keeper.old aside.old) (recorded (D.Disk.seen (keeper_disk keeper.old))) (K.state sink.old).held (K.state sink.new).held
         (ended_lines ((pending.old.items ++ ended.now) ++ rest.now)) c }
     ensures clean { D.Disk.is_clean (keeper_disk keeper.new) ≡ D.Disk.is_clean (keeper_disk keeper.old) }
     ensures quiet { OnOk result ((K.state sink.new).failures ≡ (K.state sink.old).failures) }
     ensures counted { IfErr result (λ e. (K.state sink.new).failures ≡ (K.state sink.old).failures + failed_writes e) }
     ensures failed { IfErr result (λ e. e ≡ fault.Keeper (error.Journal journal.Disk) → MoreFaults (D.Disk.faults (keeper_disk keeper.old)) (D.Disk.faults (keeper_disk keeper.new))) }
     ensures full { IfErr result (λ e. e ≡ fault.Keeper (error.Journal journal.Full) → IsFull D.Disk.seen D.Disk.is_clean (keeper_disk keeper.new)) }
-    ensures stops { (K.state sink.new).failures ≡ (K.state sink.old).failures → IsTrue (D.Disk.is_clean (keeper_disk keeper.old)) → Stops (watched_site_of keeper.old) (recorded (D.Disk.seen (keeper_disk keeper.old)))
+    ensures stops { (K.state sink.new).failures ≡ (K.state sink.old).failures → IsTrue (D.Disk.is_clean (keeper_disk keeper.old)) → Stops (place_of keeper.old aside.old) (recorded (D.Disk.seen (keeper_disk keeper.old)))
         (K.state sink.old).held (K.state sink.new).held (ended_lines ((pending.old.items ++ ended.now) ++ rest.now)) (D.Disk.may_leave (keeper_disk keeper.new)) }
     ensures faults { D.Disk.faults (keeper_disk keeper.old) ≤ D.Disk.faults (keeper_disk keeper.new) }
     ensures errors { IfErr result EndsTaking }
@@ -105,8 +108,9 @@ pub(crate) fn take_piece<D: Disk, K: Sink>(
     sink: &mut K,
 ) -> Result<(), ServeFault>
     requires keeper { IsKeeper D.Disk.seen D.Disk.may_leave D.Disk.is_usable D.Disk.is_clean keeper.old }
+    requires earlier { AreEarlier (core_of_keeper keeper.old) aside.old }
     requires waits { ended_lines pending.old.items ≡ [] }
-    ensures replied { OnOk result (Replied (watched_site_of keeper.old) (watched_site_of keeper.new) (IsTrue (D.Disk.is_clean (keeper_disk keeper.old)))
+    ensures replied { OnOk result (Replied (place_of keeper.old aside.old) (place_of keeper.new aside.new) (IsTrue (D.Disk.is_clean (keeper_disk keeper.old)))
         (recorded (D.Disk.seen (keeper_disk keeper.old))) (recorded (D.Disk.seen (keeper_disk keeper.new)))
         (K.state sink.old).held (K.state sink.new).held (ended_lines (pending.old.items ++ piece.now))) }
     ensures waits { OnOk result (IsBehind (pending.old.items ++ piece.now) pending.new.items) }
@@ -114,15 +118,16 @@ pub(crate) fn take_piece<D: Disk, K: Sink>(
     ensures within { OnOk result (are_within (pending.old.items ++ piece.now) ≡ true) }
     ensures too_long { result ≡ Err fault.TooLong → (rest : List ℕ) × (IsBehind (pending.old.items ++ piece.now) rest × HasTooLong (pending.old.items ++ piece.now) rest) }
     ensures keeper { OnOk result (IsKeeper D.Disk.seen D.Disk.may_leave D.Disk.is_usable D.Disk.is_clean keeper.new) }
+    ensures earlier { OnOk result (AreEarlier (core_of_keeper keeper.new) aside.new) }
     ensures crash { IsTrue (D.Disk.is_clean (keeper_disk keeper.old)) → (c : List ℕ) → D.Disk.may_leave (keeper_disk keeper.new) c
-        → Leaves (watched_site_of keeper.old) (recorded (D.Disk.seen (keeper_disk keeper.old))) (K.state sink.old).held (K.state sink.new).held
+        → Leaves (place_of keeper.old aside.old) (recorded (D.Disk.seen (keeper_disk keeper.old))) (K.state sink.old).held (K.state sink.new).held
         (ended_lines (pending.old.items ++ piece.now)) c }
     ensures clean { D.Disk.is_clean (keeper_disk keeper.new) ≡ D.Disk.is_clean (keeper_disk keeper.old) }
     ensures quiet { OnOk result ((K.state sink.new).failures ≡ (K.state sink.old).failures) }
     ensures counted { IfErr result (λ e. (K.state sink.new).failures ≡ (K.state sink.old).failures + failed_writes e) }
     ensures failed { IfErr result (λ e. e ≡ fault.Keeper (error.Journal journal.Disk) → MoreFaults (D.Disk.faults (keeper_disk keeper.old)) (D.Disk.faults (keeper_disk keeper.new))) }
     ensures full { IfErr result (λ e. e ≡ fault.Keeper (error.Journal journal.Full) → IsFull D.Disk.seen D.Disk.is_clean (keeper_disk keeper.new)) }
-    ensures stops { (K.state sink.new).failures ≡ (K.state sink.old).failures → IsTrue (D.Disk.is_clean (keeper_disk keeper.old)) → Stops (watched_site_of keeper.old) (recorded (D.Disk.seen (keeper_disk keeper.old)))
+    ensures stops { (K.state sink.new).failures ≡ (K.state sink.old).failures → IsTrue (D.Disk.is_clean (keeper_disk keeper.old)) → Stops (place_of keeper.old aside.old) (recorded (D.Disk.seen (keeper_disk keeper.old)))
         (K.state sink.old).held (K.state sink.new).held (ended_lines (pending.old.items ++ piece.now)) (D.Disk.may_leave (keeper_disk keeper.new)) }
     ensures faults { D.Disk.faults (keeper_disk keeper.old) ≤ D.Disk.faults (keeper_disk keeper.new) }
     ensures errors { IfErr result EndsTaking }

@@ -1,7 +1,7 @@
 //! The texts of replies.
 ghost use Rattle.std.specs.Prelude.{◌≡◌, ◌++◌, IfOk, Err, codes, flat_map, string_bytes};
 ghost use Rattle.std.specs.Fmt.{decimal};
-ghost use Rattle.sct_serve.specs.Replies.{place_text, question_refusal, question_reply, reply_line, reply_text, took_text, withheld_reply};
+ghost use Rattle.sct_serve.specs.Replies.{place_text, question_refusal, question_reply, refusal_number, refusal_place, reply_line, reply_text, took_text, withheld_reply};
 
 use sct_exchange::push_refusal;
 use sct_lines::push_json_fault;
@@ -97,20 +97,38 @@ fn push_place(text: &mut String, place: u64) -> Result<(), AllocError>
     write!(text, " {place}")
 }
 
+// The number of a question that is none.
+const NO_QUESTION: u8 = 64;
+
+// The number of a refused question.
+fn refusal_number(fault: &QuestionFault) -> u8
+    ensures { result ≡ refusal_number fault.now }
+{
+    match fault {
+        QuestionFault::NoQuestion => NO_QUESTION,
+        QuestionFault::OpenQuestions => 80,
+        QuestionFault::Refused(reason) => reason.number(),
+    }
+}
+
+// The place of the fault of a refused question.
+fn refusal_place(fault: &QuestionFault) -> u64
+    ensures { result ≡ refusal_place fault.now }
+{
+    match fault {
+        QuestionFault::Refused(reason) => reason.place(),
+        _ => 0,
+    }
+}
+
 // Appends the number of a refused question, and the place of the fault.
 #[tactic(auto, unfolding(crate::specs::Replies::question_refusal))]
 fn push_question_refusal(text: &mut String, fault: &QuestionFault) -> Result<(), AllocError>
     ensures { IfOk result (λ _. string_bytes text.new ≡ string_bytes text.old ++ question_refusal fault.now) }
 {
-    match fault {
-        QuestionFault::NoQuestion => text.push_str("64"),
-        QuestionFault::OpenQuestions => text.push_str("80"),
-        QuestionFault::Refused(reason) => {
-            let number = reason.number();
-            write!(text, "{number}")?;
-            push_place(text, reason.place())
-        }
-    }
+    let number = refusal_number(fault);
+    write!(text, "{number}")?;
+    push_place(text, refusal_place(fault))
 }
 
 /// The reply to a question that is refused. The error is that it is out of memory.

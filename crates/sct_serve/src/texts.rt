@@ -61,11 +61,7 @@ pub(crate) fn write_later<K: Sink>(
 
 /// Writes that an answer is written.
 #[tactic(auto, using(sct_streams::proofs::StreamLemmas::prefix_none))]
-pub(crate) fn write_end<K: Sink>(
-    alloc: Global,
-    number: u64,
-    sink: &mut K,
-) -> Result<(), ServeFault>
+pub(crate) fn write_end<K: Sink>(alloc: Global, number: u64, sink: &mut K) -> Result<(), ServeFault>
     ensures written { OnOk result (AppendsIfTold (K.state sink.old).held (K.state sink.new).held (end_text number)) }
     ensures cut_off { OnErr result (AppendsPrefixIfTold (K.state sink.old).held (K.state sink.new).held (end_text number)) }
     ensures quiet { OnOk result ((K.state sink.new).failures ≡ (K.state sink.old).failures) }

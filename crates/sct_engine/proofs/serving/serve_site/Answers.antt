@@ -18,6 +18,7 @@ returns-in-Ok-clause-life g c =
       ending = refl;
       ends = tt;
       replies = c.in-Ok.ensures.replies;
+      plain = c.in-Ok.ensures.plain;
       read = c.in-Ok.ensures.read;
       lasts = c.in-Ok.ensures.crash;
       stops = c.in-Ok.ensures.stops;
@@ -28,7 +29,8 @@ returns-in-Ok-clause-life g c =
       short = c.in-Ok.ensures.short;
       short_before = c.serve.ensures.short_before;
       too_long = λ is. absurd cc;
-      reads = omega (arith, c.in-Ok.ensures.reads);
+      reads = c.in-Ok.ensures.reads;
+      failed_reads = tt;
       writes = omega (arith, c.in-Ok.ensures.writes);
       disk_failed = λ is. absurd cc;
       disk_full = λ is. absurd cc;
@@ -46,6 +48,7 @@ returns-in-Err-clause-life g c =
       ending = ap Err c.from.ensures;
       ends = c.in-Err.ensures.errors;
       replies = tt;
+      plain = tt;
       read = tt;
       lasts = c.in-Err.ensures.crash_err;
       stops = c.in-Err.ensures.stops_err;
@@ -56,7 +59,8 @@ returns-in-Err-clause-life g c =
       short = tt;
       short_before = c.serve.ensures.short_before;
       too_long = λ is. let same : c.in-Err.fault ≡ serve.TooLong = cc in c.in-Err.ensures.too_long same;
-      reads = c.in-Err.ensures.failed_reads;
+      reads = tt;
+      failed_reads = c.in-Err.ensures.failed_reads;
       writes = c.in-Err.ensures.failed_writes;
       disk_failed = λ is. let same : c.in-Err.fault ≡ serve.Keeper (keeper.Journal journal.Disk) = cc in c.in-Err.ensures.failed same;
       disk_full = λ is. let same : c.in-Err.fault ≡ serve.Keeper (keeper.Journal journal.Full) = cc in c.in-Err.ensures.full same;

@@ -1,111 +1,146 @@
--- A piece more.
-use Rattle.std.proofs.Common.{◌∙◌, ap, sym, subst, IsTrue, List, [], ℕ, arith, length, length-take-le}
-use Rattle.sct_streams.specs.Stream.{HasReadIfTold}
+-- A turn more.
+use Rattle.std.proofs.Common.{◌≡◌, ◌∙◌, ◌<◌, refl, ap, sym, subst, IsTrue, List, [], ℕ, arith, length}
+use Rattle.sct_streams.specs.Stream.{Output}
+use Rattle.sct_streams.proofs.StreamLemmas.{end_on, read_nothing}
 use Rattle.sct_journal.specs.Kept.{recorded}
-use Rattle.sct_keeper.specs.Keepers.{keeper_disk, watched_site_of}
+use Rattle.sct_keeper.specs.Keepers.{core_of_keeper, keeper_disk, watched_site_of}
+use Rattle.sct_beside.specs.Readers.{input_of, room_of}
+use Rattle.sct_serve.specs.Asides.{asked_of, place_of}
+use Rattle.sct_serve.specs.Events.{alone, at}
+use Rattle.sct_serve.specs.Serving.{HasReadShort, StopsReading}
+use Rattle.sct_serve.proofs.EventLemmas.{cut_none, whole_same, whole_told}
 use Rattle.sct_serve.proofs.LeaveLemmas.{replied_under}
-use Rattle.sct_serve.proofs.PieceLemmas.{leaves_on, no_read, served_all, served_end, served_more, short_all, short_until, stops_on, stops_still, too_long_on}
-use Rattle.sct_streams.proofs.StreamLemmas.{end_on, read_nothing, read_zero}
+use Rattle.sct_serve.proofs.PieceLemmas.{served_all, served_end, served_first, served_more, served_told, short_all}
+use Rattle.sct_serve.proofs.TurnLemmas.{leaves_cut_of, leaves_turn, short_still, short_turn, served_at_end, stops_turn, stops_whole_of, too_long_turn, turn_end, turn_go}
 use Rattle.sct_serve.proofs.serving.serve_input.Goals as goal
 
-pub returns-then-n-eq0-clause-replies : goal.returns-then-n-eq0-clause-replies
-returns-then-n-eq0-clause-replies g c =
-    let given = read_zero (g.R.Source.state c.loop.source).left (g.R.Source.state c.read_piece.new.source).left c.in_ok-n.n c.read_piece.new.piece c.in_ok-n.ensures.read c.if-n-eq0.true in
-    served_all _ _ _ _ _ _ _ _ _ _ (served_end _ _ _ _ _ _ _ (g.R.Source.state c.read_piece.new.source).left _ _ _ c.loop.invariant.served given)
-    (end_on (g.R.Source.state c.args.source.now).left (g.R.Source.state c.loop.source).left (g.R.Source.state c.read_piece.new.source).left c.loop.invariant.served.read c.loop.invariant.served.taken (c.in_ok-n.ensures.end c.if-n-eq0.true))
-
-pub returns-then-n-eq0-clause-short : goal.returns-then-n-eq0-clause-short
-returns-then-n-eq0-clause-short g c =
-    let given = read_zero (g.R.Source.state c.loop.source).left (g.R.Source.state c.read_piece.new.source).left c.in_ok-n.n c.read_piece.new.piece c.in_ok-n.ensures.read c.if-n-eq0.true in
-    short_all _ _ _ _ _ _ _ _ _ _ (served_end _ _ _ _ _ _ _ (g.R.Source.state c.read_piece.new.source).left _ _ _ c.loop.invariant.served given)
-    (end_on (g.R.Source.state c.args.source.now).left (g.R.Source.state c.loop.source).left (g.R.Source.state c.read_piece.new.source).left c.loop.invariant.served.read c.loop.invariant.served.taken (c.in_ok-n.ensures.end c.if-n-eq0.true))
-
-pub returns-in_err-n-clause-short_before : goal.returns-in_err-n-clause-short_before
-returns-in_err-n-clause-short_before g c =
-    short_until _ _ _ _ _ _ _ (g.R.Source.state c.read_piece.new.source).left _ _ _ [] _ c.loop.invariant.served c.in_err-n.ensures.failed (omega arith)
-
-pub returns-in-Err-clause-short_before : goal.returns-in-Err-clause-short_before
-returns-in-Err-clause-short_before g c =
-    let mid = (g.R.Source.state c.loop.source).left in
-    let after = (g.R.Source.state c.read_piece.new.source).left in
-    let given : HasReadIfTold mid after c.split_at.result.0.now = subst (λ (l : List ℕ). HasReadIfTold mid after l) (sym c.split_at.ensures.front) c.in_ok-n.ensures.read in
-    short_until _ _ _ _ _ _ _ after _ _ _ c.split_at.result.0.now _ c.loop.invariant.served given
-    (omega (arith, ap length c.split_at.ensures.front, length-take-le c.in_ok-n.n c.read_piece.new.piece c.in_ok-n.ensures.fits, c.in_ok-n.ensures.fits, c.read_piece.ensures.room, c.loop.invariant.size))
-
-pub returns-in-Err-clause-too_long : goal.returns-in-Err-clause-too_long
-returns-in-Err-clause-too_long g c told =
-    let mid = (g.R.Source.state c.loop.source).left in
-    let after = (g.R.Source.state c.read_piece.new.source).left in
-    let given : HasReadIfTold mid after c.split_at.result.0.now = subst (λ (l : List ℕ). HasReadIfTold mid after l) (sym c.split_at.ensures.front) c.in_ok-n.ensures.read in
-    let long = c.in-Err.ensures.too_long told in
-    too_long_on _ _ _ _ _ _ _ after _ _ _ c.split_at.result.0.now long.0 c.loop.invariant.served given long.1.0 long.1.1
-
-pub returns-in-Err-clause-crash : goal.returns-in-Err-clause-crash
-returns-in-Err-clause-crash g c clean f left =
-    let mid = (g.R.Source.state c.loop.source).left in
-    let after = (g.R.Source.state c.read_piece.new.source).left in
-    let given : HasReadIfTold mid after c.split_at.result.0.now = subst (λ (l : List ℕ). HasReadIfTold mid after l) (sym c.split_at.ensures.front) c.in_ok-n.ensures.read in
-    let here : IsTrue (g.D.Disk.is_clean (keeper_disk c.loop.keeper)) = subst (λ b. IsTrue b) (sym c.loop.invariant.clean) clean in
-    leaves_on _ _ _ _ _ _ _ after _ _ (g.K.Sink.state c.take_piece.new.sink).held _ c.split_at.result.0.now f c.loop.invariant.served clean given (c.take_piece.ensures.crash here f left)
-
-pub returns-in-Err-clause-failed_reads : goal.returns-in-Err-clause-failed_reads
-returns-in-Err-clause-failed_reads g c =
-    let none = no_read c.in-Err.fault c.in-Err.ensures.errors in
-    omega (arith, c.in_ok-n.ensures.quiet, c.loop.invariant.reads, none)
+pub loop-init : goal.loop-init
+loop-init g c =
+    let s = watched_site_of c.args.keeper.now in
+    record {
+      keeper = c.requires.keeper;
+      earlier = c.new-aside.ensures.earlier (core_of_keeper c.args.keeper.now);
+      clean = refl;
+      size = refl;
+      served =
+          served_first (alone s) (at s (asked_of c.new-aside.result)) _ _ _ (g.R.Source.state c.args.source).left (g.K.Sink.state c.args.sink.now).held c.new-pending.result.items
+          (ap (at s) c.new-aside.ensures.none) refl c.new-pending.ensures;
+      reads = refl;
+      writes = refl;
+      faults = omega arith;
+    }
 
 pub loop-preserved : goal.loop-preserved
 loop-preserved g c =
-    let mid = (g.R.Source.state c.loop.source).left in
-    let after = (g.R.Source.state c.read_piece.new.source).left in
-    let given : HasReadIfTold mid after c.split_at.result.0.now = subst (λ (l : List ℕ). HasReadIfTold mid after l) (sym c.split_at.ensures.front) c.in_ok-n.ensures.read in
+    let inv = c.loop.invariant in
     let first = IsTrue (g.D.Disk.is_clean (keeper_disk c.args.keeper.now)) in
-    let here : first → IsTrue (g.D.Disk.is_clean (keeper_disk c.loop.keeper)) = λ clean. subst (λ b. IsTrue b) (sym c.loop.invariant.clean) clean in
+    let here : first → IsTrue (g.D.Disk.is_clean (keeper_disk c.loop.keeper)) = λ clean. subst (λ b. IsTrue b) (sym inv.clean) clean in
+    let goes = turn_go g.R.Source.state _ _ _ _ _ _ _ _ _ _ _ c.in-Ok-Go.later c.in-Ok-Go.field-0 c.in-Ok-Go.field-0-is c.in-Ok-Go.ensures.turned in
     record {
-      keeper = c.in_default.ensures.keeper;
-      clean = c.take_piece.ensures.clean ∙ c.loop.invariant.clean;
-      room = omega (arith, c.read_piece.ensures.room, c.loop.invariant.room);
-      size = c.read_piece.ensures.room ∙ c.loop.invariant.size;
+      keeper = c.in-Ok-Go.ensures.keeper;
+      earlier = c.in-Ok-Go.ensures.earlier;
+      clean = c.turn.ensures.clean ∙ inv.clean;
+      size = goes.same_room ∙ inv.size;
       served =
-          served_more (watched_site_of c.args.keeper.now) (watched_site_of c.loop.keeper) (watched_site_of c.take_piece.new.keeper) first
-          (recorded (g.D.Disk.seen (keeper_disk c.args.keeper.now))) (recorded (g.D.Disk.seen (keeper_disk c.loop.keeper))) (recorded (g.D.Disk.seen (keeper_disk c.take_piece.new.keeper)))
-          _ _ after _ _ (g.K.Sink.state c.take_piece.new.sink).held _ c.split_at.result.0.now c.take_piece.new.pending.items
-          c.loop.invariant.served given (replied_under _ _ _ first _ _ _ _ _ here c.in_default.ensures.replied) c.in_default.ensures.waits c.in_default.ensures.within c.in_default.ensures.short;
-      reads = c.in_ok-n.ensures.quiet ∙ c.loop.invariant.reads;
-      writes = c.in_default.ensures.quiet ∙ c.loop.invariant.writes;
-      faults = omega (arith, c.loop.invariant.faults, c.take_piece.ensures.faults);
+          served_more _ _ _ first _ _ _ _ _ _ _ _ _ _ goes.bytes _ inv.served goes.given
+          (replied_under _ _ _ first _ _ _ _ _ here goes.replied) goes.waits goes.within goes.short;
+      reads = goes.reads ∙ inv.reads;
+      writes = c.in-Ok-Go.ensures.quiet ∙ inv.writes;
+      faults = omega (arith, inv.faults, c.turn.ensures.faults);
     }
 
-pub returns-in_err-n-clause-stops : goal.returns-in_err-n-clause-stops
-returns-in_err-n-clause-stops g c quiet clean =
-    stops_still _ _ _ _ _ _ _ (g.R.Source.state c.read_piece.new.source).left _ _ _ _ _ c.loop.invariant.served clean c.in_err-n.ensures.failed
-    (λ f left. ap recorded (c.loop.invariant.keeper.settled.durable f left))
+pub returns-in-Err-clause-crash : goal.returns-in-Err-clause-crash
+returns-in-Err-clause-crash g c clean f left =
+    let inv = c.loop.invariant in
+    let here : IsTrue (g.D.Disk.is_clean (keeper_disk c.loop.keeper)) = subst (λ b. IsTrue b) (sym inv.clean) clean in
+    leaves_turn _ _ _ _ _ _ _ _ _ _ inv.served _ _ f clean (c.in-Err.ensures.crash here f left)
 
 pub returns-in-Err-clause-stops : goal.returns-in-Err-clause-stops
 returns-in-Err-clause-stops g c quiet clean =
-    let mid = (g.R.Source.state c.loop.source).left in
-    let after = (g.R.Source.state c.read_piece.new.source).left in
-    let given : HasReadIfTold mid after c.split_at.result.0.now = subst (λ (l : List ℕ). HasReadIfTold mid after l) (sym c.split_at.ensures.front) c.in_ok-n.ensures.read in
-    let here : IsTrue (g.D.Disk.is_clean (keeper_disk c.loop.keeper)) = subst (λ b. IsTrue b) (sym c.loop.invariant.clean) clean in
-    stops_on _ _ _ _ _ _ _ after _ _ (g.K.Sink.state c.take_piece.new.sink).held _ c.split_at.result.0.now _ _ c.loop.invariant.served clean given
-    (omega (arith, ap length c.split_at.ensures.front, length-take-le c.in_ok-n.n c.read_piece.new.piece c.in_ok-n.ensures.fits, c.in_ok-n.ensures.fits, c.read_piece.ensures.room, c.loop.invariant.size))
-    (c.take_piece.ensures.stops (omega (arith, quiet, c.loop.invariant.writes)) here)
+    let inv = c.loop.invariant in
+    let here : IsTrue (g.D.Disk.is_clean (keeper_disk c.loop.keeper)) = subst (λ b. IsTrue b) (sym inv.clean) clean in
+    let is = stops_turn _ _ _ _ _ _ _ _ _ _ inv.served (room_of c.loop.reader) _ _ clean (c.in-Err.ensures.stops (omega (arith, quiet, inv.writes)) here) in
+    subst (λ (n : ℕ). StopsReading n [] _ _ _ _ _ _) inv.size is
 
-pub returns-then-n-eq0-clause-short_before : goal.returns-then-n-eq0-clause-short_before
-returns-then-n-eq0-clause-short_before g c =
-    let given = read_zero (g.R.Source.state c.loop.source).left (g.R.Source.state c.read_piece.new.source).left c.in_ok-n.n c.read_piece.new.piece c.in_ok-n.ensures.read c.if-n-eq0.true in
-    short_until _ _ _ _ _ _ _ (g.R.Source.state c.read_piece.new.source).left _ _ _ [] _ c.loop.invariant.served given (omega arith)
+pub returns-in-Err-clause-short_before : goal.returns-in-Err-clause-short_before
+returns-in-Err-clause-short_before g c =
+    let inv = c.loop.invariant in
+    let reads = c.in-Err.ensures.few in
+    subst (λ (n : ℕ). HasReadShort n (g.R.Source.state c.args.source).left) inv.size (short_turn _ _ _ _ _ _ _ _ _ _ inv.served (room_of c.loop.reader) reads)
 
-pub returns-then-n-eq0-clause-stops : goal.returns-then-n-eq0-clause-stops
-returns-then-n-eq0-clause-stops g c quiet clean =
-    let given = read_zero (g.R.Source.state c.loop.source).left (g.R.Source.state c.read_piece.new.source).left c.in_ok-n.n c.read_piece.new.piece c.in_ok-n.ensures.read c.if-n-eq0.true in
-    stops_still _ _ _ _ _ _ _ (g.R.Source.state c.read_piece.new.source).left _ _ _ _ _ c.loop.invariant.served clean given
-    (λ f left. ap recorded (c.loop.invariant.keeper.settled.durable f left))
+pub returns-in-Err-clause-too_long : goal.returns-in-Err-clause-too_long
+returns-in-Err-clause-too_long g c told = too_long_turn _ _ _ _ _ _ _ _ _ _ c.loop.invariant.served (c.in-Err.ensures.too_long told)
 
-pub returns-clause-short_before : goal.returns-clause-short_before
-returns-clause-short_before g c =
-    short_until _ _ _ _ _ _ _ (g.R.Source.state c.loop.source).left _ _ _ [] _ c.loop.invariant.served (read_nothing (g.R.Source.state c.loop.source).left) (omega arith)
+pub returns-in-Err-end-clause-crash : goal.returns-in-Err-end-clause-crash
+returns-in-Err-end-clause-crash g c clean f left =
+    let inv = c.loop.invariant in
+    let ends = turn_end g.R.Source.state _ _ _ _ _ _ _ _ _ _ _ c.in-Ok-End.source c.in-Ok-End.field-0 c.in-Ok-End.field-0-is c.in-Ok-End.ensures.turned in
+    let so_far = served_at_end g.R.Source.state _ _ _ _ _ _ _ _ _ _ _ _ _ _ _ _ inv.served ends in
+    leaves_cut_of _ _ _ _ _ _ _ _ _ _ so_far _ f clean (ap recorded (c.in-Ok-End.ensures.keeper.settled.durable f left) ∙ ends.kept)
+    (c.in-Err-end.ensures.cut_off (watched_site_of c.turn.new.keeper))
+
+pub returns-in-Err-end-clause-stops : goal.returns-in-Err-end-clause-stops
+returns-in-Err-end-clause-stops g c quiet clean =
+    let inv = c.loop.invariant in
+    let ends = turn_end g.R.Source.state _ _ _ _ _ _ _ _ _ _ _ c.in-Ok-End.source c.in-Ok-End.field-0 c.in-Ok-End.field-0-is c.in-Ok-End.ensures.turned in
+    let so_far = served_at_end g.R.Source.state _ _ _ _ _ _ _ _ _ _ _ _ _ _ _ _ inv.served ends in
+    stops_whole_of _ _ _ _ _ _ _ _ _ _ so_far (length c.args.piece.items) _ _ clean (λ f left. ap recorded (c.in-Ok-End.ensures.keeper.settled.durable f left) ∙ ends.kept)
+    (c.in-Err-end.ensures.whole (omega (arith, quiet, inv.writes, c.in-Ok-End.ensures.quiet)) (watched_site_of c.turn.new.keeper))
+
+pub returns-in-Err-end-clause-short_before : goal.returns-in-Err-end-clause-short_before
+returns-in-Err-end-clause-short_before g c = short_still _ _ _ _ _ _ _ _ _ _ c.loop.invariant.served (length c.args.piece.items)
+
+pub returns-in-Ok-End-clause-short_before : goal.returns-in-Ok-End-clause-short_before
+returns-in-Ok-End-clause-short_before g c = short_still _ _ _ _ _ _ _ _ _ _ c.loop.invariant.served (length c.args.piece.items)
+
+pub returns-in-Ok-End-clause-crash : goal.returns-in-Ok-End-clause-crash
+returns-in-Ok-End-clause-crash g c clean f left =
+    let inv = c.loop.invariant in
+    let ends = turn_end g.R.Source.state _ _ _ _ _ _ _ _ _ _ _ c.in-Ok-End.source c.in-Ok-End.field-0 c.in-Ok-End.field-0-is c.in-Ok-End.ensures.turned in
+    let so_far = served_at_end g.R.Source.state _ _ _ _ _ _ _ _ _ _ _ _ _ _ _ _ inv.served ends in
+    leaves_cut_of _ _ _ _ _ _ _ _ _ _ (served_told _ _ _ _ _ _ _ _ _ _ _ _ so_far (c.in_default-end.ensures.told (watched_site_of c.turn.new.keeper))) _ f clean
+    (ap recorded (c.in-Ok-End.ensures.keeper.settled.durable f left) ∙ ends.kept) (cut_none _ _)
+
+pub returns-in-Ok-End-clause-stops : goal.returns-in-Ok-End-clause-stops
+returns-in-Ok-End-clause-stops g c quiet clean =
+    let inv = c.loop.invariant in
+    let ends = turn_end g.R.Source.state _ _ _ _ _ _ _ _ _ _ _ c.in-Ok-End.source c.in-Ok-End.field-0 c.in-Ok-End.field-0-is c.in-Ok-End.ensures.turned in
+    let so_far = served_at_end g.R.Source.state _ _ _ _ _ _ _ _ _ _ _ _ _ _ _ _ inv.served ends in
+    stops_whole_of _ _ _ _ _ _ _ _ _ _ so_far (length c.args.piece.items) _ _ clean (λ f left. ap recorded (c.in-Ok-End.ensures.keeper.settled.durable f left) ∙ ends.kept)
+    (whole_told _ _ _ _ (c.in_default-end.ensures.told (watched_site_of c.turn.new.keeper)))
+
+pub returns-in-Ok-End-clause-replies : goal.returns-in-Ok-End-clause-replies
+returns-in-Ok-End-clause-replies g c =
+    let inv = c.loop.invariant in
+    let ends = turn_end g.R.Source.state _ _ _ _ _ _ _ _ _ _ _ c.in-Ok-End.source c.in-Ok-End.field-0 c.in-Ok-End.field-0-is c.in-Ok-End.ensures.turned in
+    let so_far = served_at_end g.R.Source.state _ _ _ _ _ _ _ _ _ _ _ _ _ _ _ _ inv.served ends in
+    served_all _ _ _ _ _ _ _ _ _ _ (served_told _ _ _ _ _ _ _ _ _ _ _ _ so_far (c.in_default-end.ensures.told (watched_site_of c.turn.new.keeper)))
+    (end_on (g.R.Source.state c.args.source).left (input_of g.R.Source.state c.loop.reader).left (g.R.Source.state c.in-Ok-End.source).left inv.served.read inv.served.taken ends.end)
+    c.in_default-end.ensures.ended
+
+pub returns-in-Ok-End-clause-read : goal.returns-in-Ok-End-clause-read
+returns-in-Ok-End-clause-read g c =
+    let inv = c.loop.invariant in
+    let ends = turn_end g.R.Source.state _ _ _ _ _ _ _ _ _ _ _ c.in-Ok-End.source c.in-Ok-End.field-0 c.in-Ok-End.field-0-is c.in-Ok-End.ensures.turned in
+    end_on (g.R.Source.state c.args.source).left (input_of g.R.Source.state c.loop.reader).left (g.R.Source.state c.in-Ok-End.source).left inv.served.read inv.served.taken ends.end
+
+pub returns-in-Ok-End-clause-short : goal.returns-in-Ok-End-clause-short
+returns-in-Ok-End-clause-short g c =
+    let inv = c.loop.invariant in
+    let ends = turn_end g.R.Source.state _ _ _ _ _ _ _ _ _ _ _ c.in-Ok-End.source c.in-Ok-End.field-0 c.in-Ok-End.field-0-is c.in-Ok-End.ensures.turned in
+    let so_far = served_at_end g.R.Source.state _ _ _ _ _ _ _ _ _ _ _ _ _ _ _ _ inv.served ends in
+    short_all _ _ _ _ _ _ _ _ _ _ so_far
+    (end_on (g.R.Source.state c.args.source).left (input_of g.R.Source.state c.loop.reader).left (g.R.Source.state c.in-Ok-End.source).left inv.served.read inv.served.taken ends.end)
+
+pub returns-clause-crash : goal.returns-clause-crash
+returns-clause-crash g c clean f left =
+    let inv = c.loop.invariant in
+    leaves_cut_of _ _ _ _ _ _ _ _ _ _ inv.served _ f clean (ap recorded (inv.keeper.settled.durable f left)) (cut_none _ _)
 
 pub returns-clause-stops : goal.returns-clause-stops
 returns-clause-stops g c quiet clean =
-    stops_still _ _ _ _ _ _ _ (g.R.Source.state c.loop.source).left _ _ _ _ _ c.loop.invariant.served clean (read_nothing (g.R.Source.state c.loop.source).left)
-    (λ f left. ap recorded (c.loop.invariant.keeper.settled.durable f left))
+    let inv = c.loop.invariant in
+    stops_whole_of _ _ _ _ _ _ _ _ _ _ inv.served (length c.args.piece.items) _ _ clean (λ f left. ap recorded (inv.keeper.settled.durable f left)) (whole_same _ _ _ refl)
+
+pub returns-clause-short_before : goal.returns-clause-short_before
+returns-clause-short_before g c = short_still _ _ _ _ _ _ _ _ _ _ c.loop.invariant.served (length c.args.piece.items)
