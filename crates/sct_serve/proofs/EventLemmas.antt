@@ -2,7 +2,7 @@
 use Rattle.std.proofs.Common.{◌≡◌, ◌∙◌, refl, ap, sym, subst, ℕ, ◌≤◌, ◌+◌, zero, suc, List, [], ◌∷◌, ◌++◌, length, take, drop, arith, append_assoc}
 use Rattle.std.specs.Prelude.{Option}
 use Rattle.std.proofs.lemmas.List.{append-nil, take-append-drop}
-use Rattle.sct_streams.specs.Stream.{AppendsIfTold, AppendsPrefixIfTold}
+use Rattle.sct_streams.specs.Stream.{AppendsIfTold, AppendsPrefixIfTold, Output}
 use Rattle.sct_streams.proofs.StreamLemmas.{appends_nothing, appends_on, prefix_none, prefix_on}
 use Rattle.sct_requests.specs.WatchedSites.{WatchedSite}
 use Rattle.sct_serve.specs.Events.{AllMay, Asked, CutOff, EndsWhole, Event, May, Place, Told, at, end_text, failed_text, lines_in, lines_of, most_part, part_text, place_after, place_after_all, text_of, text_of_all}
@@ -89,6 +89,9 @@ whole_then a b h0 h1 h2 first second = record { now = second.now; told = told_th
 -- nothing was written by another name
 pub whole_same : (a : Place) (h0 h1 : Option (List ℕ)) → h1 ≡ h0 → EndsWhole a h0 h1
 whole_same a h0 h1 same = subst (λ (h : Option (List ℕ)). EndsWhole a h0 h) (sym same) (record { now = a; told = told_none a h0 })
+
+pub whole_unwritten : (a : Place) (before after : Output) → after ≡ before → EndsWhole a before.held after.held
+whole_unwritten a before after same = whole_same a before.held after.held (ap (λ (o : Output). o.held) same)
 
 -- ---- one event
 

@@ -20,7 +20,7 @@ use Rattle.sct_serve.specs.declared.serving.Turn.{Turn}
 use Rattle.sct_serve.specs.declared.serving.Turn.TheVariants as turn
 use Rattle.sct_serve.proofs.EventLemmas.{told_none}
 use Rattle.sct_serve.proofs.LeaveLemmas.{leaves_after, leaves_cut, leaves_none, leaves_of, replied_of, replied_on, replied_told, stops_after, stops_none, stops_of, stops_whole}
-use Rattle.sct_serve.proofs.PieceLemmas.{behind_none, leaves_on, served_end, served_told, short_until, stops_on, too_long_on}
+use Rattle.sct_serve.proofs.PieceLemmas.{behind_none, fits, leaves_on, served_end, served_told, short_until, stops_on, too_long_on}
 
 -- ---- one read
 
@@ -40,6 +40,11 @@ pub one_counted : (before after : Input) (count : Result ℕ Failed) (piece : Li
 one_counted before after count piece n one is =
     let none : failed_by count ≡ 0 = ap failed_by is in
     omega (arith, one.counted, none)
+
+pub few_taken : (before after : Input) (count : Result ℕ Failed) (piece : List ℕ) (n : ℕ) (front : List ℕ) (room : ℕ) → IsOneRead before after count piece → count ≡ Ok n → front ≡ take n piece → length piece ≡ room → length front ≤ room
+few_taken before after count piece n front room one is part same =
+    let fits_in = one_fits before after count piece n one is in
+    omega (arith, ap length part, length-take-le n piece fits_in, fits_in, same)
 
 pub no_bytes : (before after : Input) → after ≡ before → HasReadIfTold before.left after.left []
 no_bytes before after same = subst (λ (i : Input). HasReadIfTold before.left i.left []) (sym same) (read_nothing before.left)
@@ -110,7 +115,7 @@ goes_again state p m sound before h0 h1 reader later pending told same room none
       replied = replied_of p m sound before before h0 h1 [] (ended_lines (pending ++ [])) (sym nothing) (replied_told p m sound before h0 h1 told);
       waits = subst (λ (l : List ℕ). IsBehind l pending) (sym (append-nil pending)) (behind_none pending none);
       short = short;
-      within = ap (list_all _) nothing;
+      within = ap (list_all fits) nothing;
       same_room = room;
       reads = ap (λ (i : Input). i.failures) same;
     }

@@ -205,7 +205,7 @@ impl Aside {
     }
 
     // The answer to the first question is there: it is written next. Or memory ran out for it, and that is written.
-    #[tactic(auto, using(crate::proofs::EventLemmas::told_same, crate::proofs::EventLemmas::told_failed, crate::proofs::EventLemmas::cut_failed))]
+    #[tactic(auto, using(crate::proofs::EventLemmas::whole_unwritten, crate::proofs::EventLemmas::told_same, crate::proofs::EventLemmas::told_failed, crate::proofs::EventLemmas::cut_failed))]
     fn set<K: Sink>(
         &mut self,
         alloc: Global,
@@ -362,7 +362,7 @@ impl Aside {
     }
 
     // Writes the next part of a text, or that it is written.
-    #[tactic(auto, using(crate::proofs::EventLemmas::told_part_at, crate::proofs::EventLemmas::cut_part_at, crate::proofs::EventLemmas::told_end_at, crate::proofs::EventLemmas::cut_end_at))]
+    #[tactic(auto, using(crate::proofs::EventLemmas::whole_unwritten, crate::proofs::EventLemmas::told_part_at, crate::proofs::EventLemmas::cut_part_at, crate::proofs::EventLemmas::told_end_at, crate::proofs::EventLemmas::cut_end_at))]
     fn tell_from<K: Sink>(
         &mut self,
         alloc: Global,
