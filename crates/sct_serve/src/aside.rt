@@ -1,5 +1,5 @@
 //! The questions that are open. The answer to the first is made in a thread of its own, or is being written.
-ghost use Rattle.std.specs.Prelude.{◌≡◌, ◌+◌, ◌++◌, ◌∷◌, [], None, ℕ, ◌<◌, ◌^◌, ◌≤◌, IfOk, IfErr, IfSome, IfNone, OnOk, OnErr, length, nat_eq, true, drop, map, take};
+ghost use Rattle.std.specs.Prelude.{◌≡◌, ◌+◌, ◌++◌, ◌∷◌, [], None, List, ℕ, ◌<◌, ◌^◌, ◌≤◌, IfOk, IfErr, IfSome, IfNone, OnOk, OnErr, length, nat_eq, true, drop, map, take};
 ghost use Rattle.std.specs.List.{list_any};
 ghost use Rattle.sct_site.specs.Cores.{Core};
 ghost use Rattle.sct_snapshot.specs.Moments.{IsEarlier};

@@ -96,7 +96,7 @@ fn read_beside<R: Source + Drop + Send + 'static, H: Threads + Wait + Copy + Sen
 }
 
 // What comes next: bytes of the input, or a turn of the open questions.
-fn next<R: Source + Drop + Send + 'static, K: Sink, H: Threads + Wait + Copy + Send + 'static>(
+fn read_next<R: Source + Drop + Send + 'static, K: Sink, H: Threads + Wait + Copy + Send + 'static>(
     rt: &H,
     alloc: Global,
     aside: &mut Aside,
@@ -129,8 +129,7 @@ fn next<R: Source + Drop + Send + 'static, K: Sink, H: Threads + Wait + Copy + S
 }
 
 // One turn: the open questions go on, and what was read is taken.
-#[tactic(none)]
-fn turn<
+fn take_turn<
     D: Disk,
     R: Source + Drop + Send + 'static,
     K: Sink,
@@ -171,7 +170,7 @@ fn turn<
     ensures faults { D.Disk.faults (keeper_disk keeper.old) ≤ D.Disk.faults (keeper_disk keeper.new) }
     ensures errors { IfErr result (λ left. EndsAfterOpening left.0) }
 {
-    match next(rt, alloc, aside, reader, bell, bells, sink) {
+    match read_next(rt, alloc, aside, reader, bell, bells, sink) {
         Err(fault) => Err((fault, None)),
         Ok(Next::Again(again)) => Ok(Turn::Go(again)),
         Ok(Next::Read(reading)) => {
@@ -200,7 +199,6 @@ fn turn<
 /// the open questions are answered, part by part, and at the end of input all of them are.
 ///
 /// An `Err` hands the source back, unless a thread reads from it then. That thread is not waited for.
-#[tactic(none)]
 pub(crate) fn serve_input<
     D: Disk,
     R: Source + Drop + Send + 'static,
@@ -252,7 +250,7 @@ pub(crate) fn serve_input<
     let mut pending = Vec::new(alloc);
     let mut reader = Reader::Idle { source, piece };
     for _ in 0..u64::MAX {
-        match turn(
+        match take_turn(
             rt,
             alloc,
             keeper,

@@ -1,5 +1,5 @@
 //! The texts of what happens beside requests.
-ghost use Rattle.std.specs.Prelude.{◌≡◌, OnOk, OnErr, IfOk, IfErr, string_bytes};
+ghost use Rattle.std.specs.Prelude.{◌≡◌, ◌+◌, OnOk, OnErr, IfOk, IfErr, string_bytes};
 ghost use Rattle.sct_streams.specs.Stream.{AppendsIfTold, AppendsPrefixIfTold};
 ghost use Rattle.sct_serve.specs.Events.{end_text, failed_text, later_text, part_text};
 ghost use Rattle.sct_serve.specs.Serving.{IsGreetingFault, failed_writes};

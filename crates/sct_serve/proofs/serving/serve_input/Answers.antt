@@ -39,14 +39,14 @@ loop-preserved g c =
     record {
       keeper = c.in-Ok-Go.ensures.keeper;
       earlier = c.in-Ok-Go.ensures.earlier;
-      clean = c.turn.ensures.clean ∙ inv.clean;
+      clean = c.take_turn.ensures.clean ∙ inv.clean;
       size = goes.same_room ∙ inv.size;
       served =
           served_more _ _ _ first _ _ _ _ _ _ _ _ _ _ goes.bytes _ inv.served goes.given
           (replied_under _ _ _ first _ _ _ _ _ here goes.replied) goes.waits goes.within goes.short;
       reads = goes.reads ∙ inv.reads;
       writes = c.in-Ok-Go.ensures.quiet ∙ inv.writes;
-      faults = omega (arith, inv.faults, c.turn.ensures.faults);
+      faults = omega (arith, inv.faults, c.take_turn.ensures.faults);
     }
 
 pub returns-in-Err-clause-crash : goal.returns-in-Err-clause-crash
@@ -77,7 +77,7 @@ returns-in-Err-end-clause-crash g c clean f left =
     let ends = turn_end g.R.Source.state _ _ _ _ _ _ _ _ _ _ _ c.in-Ok-End.source c.in-Ok-End.field-0 c.in-Ok-End.field-0-is c.in-Ok-End.ensures.turned in
     let so_far = served_at_end g.R.Source.state _ _ _ _ _ _ _ _ _ _ _ _ _ _ _ _ inv.served ends in
     leaves_cut_of _ _ _ _ _ _ _ _ _ _ so_far _ f clean (ap recorded (c.in-Ok-End.ensures.keeper.settled.durable f left) ∙ ends.kept)
-    (c.in-Err-end.ensures.cut_off (watched_site_of c.turn.new.keeper))
+    (c.in-Err-end.ensures.cut_off (watched_site_of c.take_turn.new.keeper))
 
 pub returns-in-Err-end-clause-stops : goal.returns-in-Err-end-clause-stops
 returns-in-Err-end-clause-stops g c quiet clean =
@@ -85,7 +85,7 @@ returns-in-Err-end-clause-stops g c quiet clean =
     let ends = turn_end g.R.Source.state _ _ _ _ _ _ _ _ _ _ _ c.in-Ok-End.source c.in-Ok-End.field-0 c.in-Ok-End.field-0-is c.in-Ok-End.ensures.turned in
     let so_far = served_at_end g.R.Source.state _ _ _ _ _ _ _ _ _ _ _ _ _ _ _ _ inv.served ends in
     stops_whole_of _ _ _ _ _ _ _ _ _ _ so_far (length c.args.piece.items) _ _ clean (λ f left. ap recorded (c.in-Ok-End.ensures.keeper.settled.durable f left) ∙ ends.kept)
-    (c.in-Err-end.ensures.whole (omega (arith, quiet, inv.writes, c.in-Ok-End.ensures.quiet)) (watched_site_of c.turn.new.keeper))
+    (c.in-Err-end.ensures.whole (omega (arith, quiet, inv.writes, c.in-Ok-End.ensures.quiet)) (watched_site_of c.take_turn.new.keeper))
 
 pub returns-in-Err-end-clause-short_before : goal.returns-in-Err-end-clause-short_before
 returns-in-Err-end-clause-short_before g c = short_still _ _ _ _ _ _ _ _ _ _ c.loop.invariant.served (length c.args.piece.items)
@@ -98,7 +98,7 @@ returns-in-Ok-End-clause-crash g c clean f left =
     let inv = c.loop.invariant in
     let ends = turn_end g.R.Source.state _ _ _ _ _ _ _ _ _ _ _ c.in-Ok-End.source c.in-Ok-End.field-0 c.in-Ok-End.field-0-is c.in-Ok-End.ensures.turned in
     let so_far = served_at_end g.R.Source.state _ _ _ _ _ _ _ _ _ _ _ _ _ _ _ _ inv.served ends in
-    leaves_cut_of _ _ _ _ _ _ _ _ _ _ (served_told _ _ _ _ _ _ _ _ _ _ _ _ so_far (c.in_default-end.ensures.told (watched_site_of c.turn.new.keeper))) _ f clean
+    leaves_cut_of _ _ _ _ _ _ _ _ _ _ (served_told _ _ _ _ _ _ _ _ _ _ _ _ so_far (c.in_default-end.ensures.told (watched_site_of c.take_turn.new.keeper))) _ f clean
     (ap recorded (c.in-Ok-End.ensures.keeper.settled.durable f left) ∙ ends.kept) (cut_none _ _)
 
 pub returns-in-Ok-End-clause-stops : goal.returns-in-Ok-End-clause-stops
@@ -107,14 +107,14 @@ returns-in-Ok-End-clause-stops g c quiet clean =
     let ends = turn_end g.R.Source.state _ _ _ _ _ _ _ _ _ _ _ c.in-Ok-End.source c.in-Ok-End.field-0 c.in-Ok-End.field-0-is c.in-Ok-End.ensures.turned in
     let so_far = served_at_end g.R.Source.state _ _ _ _ _ _ _ _ _ _ _ _ _ _ _ _ inv.served ends in
     stops_whole_of _ _ _ _ _ _ _ _ _ _ so_far (length c.args.piece.items) _ _ clean (λ f left. ap recorded (c.in-Ok-End.ensures.keeper.settled.durable f left) ∙ ends.kept)
-    (whole_told _ _ _ _ (c.in_default-end.ensures.told (watched_site_of c.turn.new.keeper)))
+    (whole_told _ _ _ _ (c.in_default-end.ensures.told (watched_site_of c.take_turn.new.keeper)))
 
 pub returns-in-Ok-End-clause-replies : goal.returns-in-Ok-End-clause-replies
 returns-in-Ok-End-clause-replies g c =
     let inv = c.loop.invariant in
     let ends = turn_end g.R.Source.state _ _ _ _ _ _ _ _ _ _ _ c.in-Ok-End.source c.in-Ok-End.field-0 c.in-Ok-End.field-0-is c.in-Ok-End.ensures.turned in
     let so_far = served_at_end g.R.Source.state _ _ _ _ _ _ _ _ _ _ _ _ _ _ _ _ inv.served ends in
-    served_all _ _ _ _ _ _ _ _ _ _ (served_told _ _ _ _ _ _ _ _ _ _ _ _ so_far (c.in_default-end.ensures.told (watched_site_of c.turn.new.keeper)))
+    served_all _ _ _ _ _ _ _ _ _ _ (served_told _ _ _ _ _ _ _ _ _ _ _ _ so_far (c.in_default-end.ensures.told (watched_site_of c.take_turn.new.keeper)))
     (end_on (g.R.Source.state c.args.source).left (input_of g.R.Source.state c.loop.reader).left (g.R.Source.state c.in-Ok-End.source).left inv.served.read inv.served.taken ends.end)
     c.in_default-end.ensures.ended
 

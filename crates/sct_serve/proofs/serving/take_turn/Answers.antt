@@ -7,24 +7,24 @@ use Rattle.sct_beside.specs.Readers.{input_of, room_of}
 use Rattle.sct_serve.specs.Asides.{asked_of, place_of}
 use Rattle.sct_serve.proofs.LeaveLemmas.{replied_told}
 use Rattle.sct_serve.proofs.TurnLemmas.{cut_in, failed_in, failed_stops, few_taken, goes_again, leaves_in, next_again, next_read, one_counted, one_end, one_fits, one_given, one_nothing, reads_none, replied_then, stops_in, whole_in}
-use Rattle.sct_serve.proofs.serving.turn.Goals as goal
+use Rattle.sct_serve.proofs.serving.take_turn.Goals as goal
 
-pub next-requires-clause-room-after_bounds : goal.next-requires-clause-room-after_bounds
-next-requires-clause-room-after_bounds g c κs within = c.requires.room
+pub read_next-requires-clause-room-after_bounds : goal.read_next-requires-clause-room-after_bounds
+read_next-requires-clause-room-after_bounds g c κs within = c.requires.room
 
-pub next-requires-clause-earlier-after_bounds : goal.next-requires-clause-earlier-after_bounds
-next-requires-clause-earlier-after_bounds g c κs within = (core_of_keeper c.args.keeper.now, c.requires.earlier)
+pub read_next-requires-clause-earlier-after_bounds : goal.read_next-requires-clause-earlier-after_bounds
+read_next-requires-clause-earlier-after_bounds g c κs within = (core_of_keeper c.args.keeper.now, c.requires.earlier)
 
 pub returns-in-Err-clause-crash : goal.returns-in-Err-clause-crash
 returns-in-Err-clause-crash g c clean f left =
     cut_in (place_of c.args.keeper.now c.args.aside.now) (place_of c.args.keeper.now c.args.aside.now) (recorded (g.D.Disk.seen (keeper_disk c.args.keeper.now)))
-    (g.K.Sink.state c.args.sink.now).held (g.K.Sink.state c.next.new.sink).held (g.K.Sink.state c.next.new.sink).held c.args.pending.now.items (room_of c.args.reader)
+    (g.K.Sink.state c.args.sink.now).held (g.K.Sink.state c.read_next.new.sink).held (g.K.Sink.state c.read_next.new.sink).held c.args.pending.now.items (room_of c.args.reader)
     (input_of g.R.Source.state c.args.reader).left f (ap recorded (c.requires.keeper.settled.durable f left)) (c.in-Err.ensures.cut_off (watched_site_of c.args.keeper.now))
 
 pub returns-in-Err-clause-stops : goal.returns-in-Err-clause-stops
 returns-in-Err-clause-stops g c quiet clean =
     whole_in (place_of c.args.keeper.now c.args.aside.now) (place_of c.args.keeper.now c.args.aside.now) (recorded (g.D.Disk.seen (keeper_disk c.args.keeper.now)))
-    (g.K.Sink.state c.args.sink.now).held (g.K.Sink.state c.next.new.sink).held (g.K.Sink.state c.next.new.sink).held c.args.pending.now.items (room_of c.args.reader)
+    (g.K.Sink.state c.args.sink.now).held (g.K.Sink.state c.read_next.new.sink).held (g.K.Sink.state c.read_next.new.sink).held c.args.pending.now.items (room_of c.args.reader)
     (input_of g.R.Source.state c.args.reader).left _ (λ f left. ap recorded (c.requires.keeper.settled.durable f left)) (c.in-Err.ensures.whole quiet (watched_site_of c.args.keeper.now))
 
 pub returns-in-Err-clause-few : goal.returns-in-Err-clause-few
@@ -33,20 +33,20 @@ returns-in-Err-clause-few g c = reads_none (room_of c.args.reader) (input_of g.R
 pub returns-in-Ok-Again-clause-turned : goal.returns-in-Ok-Again-clause-turned
 returns-in-Ok-Again-clause-turned g c =
     let again = next_again g.R.Source.state c.args.reader c.in-Ok-Again.again c.in-Ok-Again.field-0 c.in-Ok-Again.field-0-is c.in-Ok-Again.ensures.next in
-    goes_again g.R.Source.state (place_of c.args.keeper.now c.args.aside.now) (place_of c.args.keeper.now c.next.new.aside) _ (recorded (g.D.Disk.seen (keeper_disk c.args.keeper.now)))
-    (g.K.Sink.state c.args.sink.now).held (g.K.Sink.state c.next.new.sink).held c.args.reader c.in-Ok-Again.again c.args.pending.now.items
+    goes_again g.R.Source.state (place_of c.args.keeper.now c.args.aside.now) (place_of c.args.keeper.now c.read_next.new.aside) _ (recorded (g.D.Disk.seen (keeper_disk c.args.keeper.now)))
+    (g.K.Sink.state c.args.sink.now).held (g.K.Sink.state c.read_next.new.sink).held c.args.reader c.in-Ok-Again.again c.args.pending.now.items
     (c.in-Ok-Again.ensures.told (watched_site_of c.args.keeper.now)) again.0 again.1 c.requires.waits c.requires.short
 
 pub returns-in_default-clause-crash : goal.returns-in_default-clause-crash
 returns-in_default-clause-crash g c clean f left =
-    failed_in (place_of c.args.keeper.now c.args.aside.now) (place_of c.args.keeper.now c.next.new.aside) (recorded (g.D.Disk.seen (keeper_disk c.args.keeper.now)))
-    (g.K.Sink.state c.args.sink.now).held (g.K.Sink.state c.next.new.sink).held c.args.pending.now.items (room_of c.args.reader) _
+    failed_in (place_of c.args.keeper.now c.args.aside.now) (place_of c.args.keeper.now c.read_next.new.aside) (recorded (g.D.Disk.seen (keeper_disk c.args.keeper.now)))
+    (g.K.Sink.state c.args.sink.now).held (g.K.Sink.state c.read_next.new.sink).held c.args.pending.now.items (room_of c.args.reader) _
     (input_of g.R.Source.state c.args.reader).left (input_of g.R.Source.state c.args.reader).left f clean (c.in-Ok-Read.ensures.told (watched_site_of c.args.keeper.now)) (ap recorded (c.requires.keeper.settled.durable f left))
 
 pub returns-in_default-clause-stops : goal.returns-in_default-clause-stops
 returns-in_default-clause-stops g c quiet clean =
-    failed_stops (place_of c.args.keeper.now c.args.aside.now) (place_of c.args.keeper.now c.next.new.aside) (recorded (g.D.Disk.seen (keeper_disk c.args.keeper.now)))
-    (g.K.Sink.state c.args.sink.now).held (g.K.Sink.state c.next.new.sink).held c.args.pending.now.items (room_of c.args.reader) _
+    failed_stops (place_of c.args.keeper.now c.args.aside.now) (place_of c.args.keeper.now c.read_next.new.aside) (recorded (g.D.Disk.seen (keeper_disk c.args.keeper.now)))
+    (g.K.Sink.state c.args.sink.now).held (g.K.Sink.state c.read_next.new.sink).held c.args.pending.now.items (room_of c.args.reader) _
     (input_of g.R.Source.state c.args.reader).left _ clean (c.in-Ok-Read.ensures.told (watched_site_of c.args.keeper.now)) (λ f left. ap recorded (c.requires.keeper.settled.durable f left))
 
 pub returns-in_default-clause-few : goal.returns-in_default-clause-few
@@ -81,8 +81,8 @@ returns-in-Err-take_piece-clause-crash g c clean f left =
     let after = g.R.Source.state c.in-Ok-Read.reading.source in
     let one = (next_read g.R.Source.state c.args.reader c.in-Ok-Read.reading c.in-Ok-Read.field-0 c.in-Ok-Read.field-0-is c.in-Ok-Read.ensures.next).1 in
     let front : c.split_at.result.0.now ≡ take c.in-Ok.n c.in-Ok-Read.reading.piece.items = c.split_at.ensures.front ∙ ap (take c.in-Ok.n) c.deref.ensures.value in
-    leaves_in (place_of c.args.keeper.now c.args.aside.now) (place_of c.args.keeper.now c.next.new.aside) (recorded (g.D.Disk.seen (keeper_disk c.args.keeper.now)))
-    (g.K.Sink.state c.args.sink.now).held (g.K.Sink.state c.next.new.sink).held (g.K.Sink.state c.take_piece.new.sink).held c.args.pending.now.items (room_of c.args.reader) _
+    leaves_in (place_of c.args.keeper.now c.args.aside.now) (place_of c.args.keeper.now c.read_next.new.aside) (recorded (g.D.Disk.seen (keeper_disk c.args.keeper.now)))
+    (g.K.Sink.state c.args.sink.now).held (g.K.Sink.state c.read_next.new.sink).held (g.K.Sink.state c.take_piece.new.sink).held c.args.pending.now.items (room_of c.args.reader) _
     before.left after.left c.split_at.result.0.now f clean (c.in-Ok-Read.ensures.told (watched_site_of c.args.keeper.now))
     (subst (λ (l : List ℕ). HasReadIfTold before.left after.left l) (sym front) (one_given before after c.in-Ok-Read.reading.count c.in-Ok-Read.reading.piece.items c.in-Ok.n one c.in-Ok.is))
     (c.take_piece.ensures.crash clean f left)
@@ -93,8 +93,8 @@ returns-in-Err-take_piece-clause-stops g c quiet clean =
     let after = g.R.Source.state c.in-Ok-Read.reading.source in
     let read = next_read g.R.Source.state c.args.reader c.in-Ok-Read.reading c.in-Ok-Read.field-0 c.in-Ok-Read.field-0-is c.in-Ok-Read.ensures.next in
     let front : c.split_at.result.0.now ≡ take c.in-Ok.n c.in-Ok-Read.reading.piece.items = c.split_at.ensures.front ∙ ap (take c.in-Ok.n) c.deref.ensures.value in
-    stops_in (place_of c.args.keeper.now c.args.aside.now) (place_of c.args.keeper.now c.next.new.aside) (recorded (g.D.Disk.seen (keeper_disk c.args.keeper.now)))
-    (g.K.Sink.state c.args.sink.now).held (g.K.Sink.state c.next.new.sink).held (g.K.Sink.state c.take_piece.new.sink).held c.args.pending.now.items (room_of c.args.reader) _
+    stops_in (place_of c.args.keeper.now c.args.aside.now) (place_of c.args.keeper.now c.read_next.new.aside) (recorded (g.D.Disk.seen (keeper_disk c.args.keeper.now)))
+    (g.K.Sink.state c.args.sink.now).held (g.K.Sink.state c.read_next.new.sink).held (g.K.Sink.state c.take_piece.new.sink).held c.args.pending.now.items (room_of c.args.reader) _
     before.left after.left c.split_at.result.0.now _ clean (c.in-Ok-Read.ensures.told (watched_site_of c.args.keeper.now))
     (subst (λ (l : List ℕ). HasReadIfTold before.left after.left l) (sym front) (one_given before after c.in-Ok-Read.reading.count c.in-Ok-Read.reading.piece.items c.in-Ok.n read.1 c.in-Ok.is))
     (few_taken before after c.in-Ok-Read.reading.count c.in-Ok-Read.reading.piece.items c.in-Ok.n c.split_at.result.0.now (room_of c.args.reader) read.1 c.in-Ok.is front read.0)
@@ -139,8 +139,8 @@ returns-in_default-take_piece-clause-turned g c =
       bytes = c.split_at.result.0.now;
       given = subst (λ (l : List ℕ). HasReadIfTold before.left after.left l) (sym front) (one_given before after c.in-Ok-Read.reading.count c.in-Ok-Read.reading.piece.items c.in-Ok.n read.1 c.in-Ok.is);
       replied =
-          replied_then (place_of c.args.keeper.now c.args.aside.now) (place_of c.args.keeper.now c.next.new.aside) (place_of c.take_piece.new.keeper c.take_piece.new.aside) _ _ _
-          (g.K.Sink.state c.args.sink.now).held (g.K.Sink.state c.next.new.sink).held (g.K.Sink.state c.take_piece.new.sink).held _
+          replied_then (place_of c.args.keeper.now c.args.aside.now) (place_of c.args.keeper.now c.read_next.new.aside) (place_of c.take_piece.new.keeper c.take_piece.new.aside) _ _ _
+          (g.K.Sink.state c.args.sink.now).held (g.K.Sink.state c.read_next.new.sink).held (g.K.Sink.state c.take_piece.new.sink).held _
           (c.in-Ok-Read.ensures.told (watched_site_of c.args.keeper.now)) c.in_default-take_piece.ensures.replied;
       waits = c.in_default-take_piece.ensures.waits;
       short = c.in_default-take_piece.ensures.short;
