@@ -1,5 +1,5 @@
 -- What a site held before. Proof plumbing.
-use Rattle.std.proofs.Common.{◌≡◌, ◌∙◌, ◌≤◌, refl, ap, sym, ℕ, List, [], ◌∷◌, ◌++◌, length}
+use Rattle.std.proofs.Common.{◌≡◌, ◌∙◌, ◌≤◌, refl, ap, sym, subst, ℕ, List, [], ◌∷◌, ◌++◌, length}
 use Rattle.std.specs.Prelude.{Option, None, Some, IfSome}
 use mathlib.Core.List.{IsPrefix}
 use Rattle.sct_delta.specs.Entries.{Placed}
@@ -78,3 +78,9 @@ earlier_on a b aside later held = record {
 pub waiting_more : (core : Core) (ws : List Waiting) (w : Waiting) → AreWaitingEarlier core ws → IsEarlier w.snapshot core → AreWaitingEarlier core (ws ++ w ∷ [])
 waiting_more core [] w held last = (last, tt)
 waiting_more core (v ∷ ws) w held last = (held.0, waiting_more core ws w held.1 last)
+
+-- a follower that holds no more than a snapshot was held before it
+pub follower_shorter : (site : Embedding) (aside : Aside) (snapshot : Core) → aside.follower ≡ Some site → length site.core.arrivals ≤ length snapshot.arrivals
+    → (core : Core) → AreEarlier core aside → IsEarlier snapshot core → IsEarlier site.core snapshot
+follower_shorter site aside snapshot is fewer core held later =
+    earlier_shorter site.core snapshot core (subst (λ (o : Option Embedding). IfSome o (λ s. IsEarlier s.core core)) is held.follower) later fewer

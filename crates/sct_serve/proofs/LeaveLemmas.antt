@@ -141,7 +141,7 @@ two_lots p before es ys =
     ∙ ap (λ (l : List (List ℕ)). before ++ l) (sym (brought_by_join (lines_of es) ys p.site.core))
 
 -- the lines that are recorded after events, and then lines
-lots_on : (p m : Place) (before mid xs : List (List ℕ)) (es : List Event) (ys : List (List ℕ)) → m ≡ place_after_all p es → xs ≡ lines_of es → mid ≡ before ++ brought_by p.site.core xs
+pub lots_on : (p m : Place) (before mid xs : List (List ℕ)) (es : List Event) (ys : List (List ℕ)) → m ≡ place_after_all p es → xs ≡ lines_of es → mid ≡ before ++ brought_by p.site.core xs
     → mid ++ brought_by m.site.core ys ≡ before ++ brought_by p.site.core (lines_of es ++ ys)
 lots_on p m before mid xs es ys ends given keeps =
     (λ i. (keeps ∙ ap (λ (l : List (List ℕ)). before ++ brought_by p.site.core l) given) i ++ brought_by (ends i).site.core ys)

@@ -11,7 +11,7 @@ use Rattle.sct_journal.proofs.LineLemmas.{ended_line, is_feed, lines_join, no_fe
 use Rattle.sct_requests.specs.Steps.{is_question_line}
 use Rattle.sct_serve.specs.Events.{Place, Told, lines_of}
 use Rattle.sct_serve.specs.Serving.{AreShort, HasNoQuestion, HasReadShort, HasReadTooLong, HasTooLong, IsAllTold, IsBehind, IsFrontIfTold, Leaves, LeavesOf, Replied, Served, Stops, StopsReading, are_within, most_request}
-use Rattle.sct_serve.proofs.EventLemmas.{lines_on}
+use Rattle.sct_serve.proofs.EventLemmas.{lines_on as event_lines_on}
 use Rattle.sct_serve.proofs.LeaveLemmas.{leaves_after, leaves_none, leaves_of, replied_none, replied_of, replied_on, replied_told, stops_after, stops_none}
 use Rattle.sct_streams.proofs.StreamLemmas.{read_all, read_nothing, read_on}
 
@@ -358,7 +358,7 @@ stops_on s m sound before mid unread unread_mid unread_now held held_mid held_no
       done = all.done;
       may = all.may;
       told_last = lines_of left.done;
-      told = lines_on so_far.replied.events left.done ∙ ap (λ (l : List (List ℕ)). l ++ lines_of left.done) (sym so_far.replied.given);
+      told = event_lines_on so_far.replied.events left.done ∙ ap (λ (l : List (List ℕ)). l ++ lines_of left.done) (sym so_far.replied.given);
       round = left.round;
       others = left.others;
       parts = so_far.behind.parts piece ∙ all.parts;

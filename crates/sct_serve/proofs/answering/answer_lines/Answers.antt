@@ -8,7 +8,7 @@ use Rattle.sct_requests.specs.WatchedSites.{WatchedSite}
 use Rattle.sct_requests.specs.declared.steps.Reply.{Reply}
 use Rattle.sct_site.specs.Cores.{Core}
 use Rattle.sct_serve.specs.Events.{Place, at, text_of_all}
-use Rattle.sct_serve.specs.Events.Event as event
+use Rattle.sct_serve.specs.Events.Event.{Reply as ReplyEvent}
 use Rattle.sct_serve.specs.Replies.{reply_line}
 use Rattle.sct_serve.proofs.EarlierLemmas.{earlier_later}
 use Rattle.sct_serve.proofs.LeaveLemmas.{leaves_all, leaves_told, leaves_untold, replied_all, stops_all, stops_round}
@@ -29,7 +29,7 @@ returns-in_err-write-clause-crash g c clean f left asked =
     let lines = ended_lines c.args.lines.now in
     let held = (g.K.Sink.state c.args.sink.now).held in
     let now = (g.K.Sink.state c.write.new.sink).held in
-    let text : c.as_bytes.result.now ≡ text_of_all p (map event.Reply lines) =
+    let text : c.as_bytes.result.now ≡ text_of_all p (map ReplyEvent lines) =
     c.as_bytes.ensures.value ∙ c.in_ok-text.ensures ∙ ap (λ (l : List Reply). flat_map reply_line l) (c.deref.ensures.value ∙ c.in_ok-answers.ensures.answers) ∙ sym (quiet_replies lines p c.requires.none) in
     leaves_told p (recorded (g.D.Disk.seen (keeper_disk c.args.keeper.now))) lines held now f
     (ap recorded (c.in_ok-answers.ensures.keeper.settled.durable f left) ∙ c.in_ok-answers.ensures.acknowledged clean)
@@ -41,7 +41,7 @@ returns-clause-crash g c clean f left asked =
     let lines = ended_lines c.args.lines.now in
     let held = (g.K.Sink.state c.args.sink.now).held in
     let now = (g.K.Sink.state c.write.new.sink).held in
-    let text : c.as_bytes.result.now ≡ text_of_all p (map event.Reply lines) =
+    let text : c.as_bytes.result.now ≡ text_of_all p (map ReplyEvent lines) =
     c.as_bytes.ensures.value ∙ c.in_ok-text.ensures ∙ ap (λ (l : List Reply). flat_map reply_line l) (c.deref.ensures.value ∙ c.in_ok-answers.ensures.answers) ∙ sym (quiet_replies lines p c.requires.none) in
     leaves_all p (recorded (g.D.Disk.seen (keeper_disk c.args.keeper.now))) lines held now f
     (ap recorded (c.in_ok-answers.ensures.keeper.settled.durable f left) ∙ c.in_ok-answers.ensures.acknowledged clean)
@@ -65,7 +65,7 @@ returns-clause-replied g c asked =
     let lines = ended_lines c.args.lines.now in
     let held = (g.K.Sink.state c.args.sink.now).held in
     let now = (g.K.Sink.state c.write.new.sink).held in
-    let text : c.as_bytes.result.now ≡ text_of_all p (map event.Reply lines) =
+    let text : c.as_bytes.result.now ≡ text_of_all p (map ReplyEvent lines) =
     c.as_bytes.ensures.value ∙ c.in_ok-text.ensures ∙ ap (λ (l : List Reply). flat_map reply_line l) (c.deref.ensures.value ∙ c.in_ok-answers.ensures.answers) ∙ sym (quiet_replies lines p c.requires.none) in
     replied_all p m _ _ _ held now lines
     ((λ i. place_by (c.in_ok-answers.ensures.site i) (c.round.ensures.watched i)) ∙ sym (quiet_site lines p c.requires.none))
