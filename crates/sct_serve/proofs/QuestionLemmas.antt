@@ -1,6 +1,6 @@
 -- A question line brings a site nothing. Proof plumbing.
 use Rattle.std.proofs.Common.{◌≡◌, ◌∙◌, refl, ap, sym, subst, ℕ, true, List, [], ◌∷◌, ◌++◌, drop}
-use Rattle.std.specs.Prelude.{Option, None, Some}
+use Rattle.std.specs.Prelude.{Option, None, Some, Result, Ok, Err, OnOk}
 use Rattle.std.proofs.lemmas.List.{append-nil}
 use Rattle.sct_streams.specs.Stream.{AppendsIfTold, AppendsPrefixIfTold}
 use Rattle.sct_site.specs.Cores.{Core}
@@ -21,7 +21,7 @@ use Rattle.sct_serve.proofs.ReplyLemmas.{question_reply_is, question_site}
 
 -- ---- one line
 
-site_by : Core → Option ℕ → WatchedSite
+abbrev pub site_by : Core → Option ℕ → WatchedSite
 site_by core watched = record { core = core; watched = watched }
 
 -- a question with a number
@@ -68,3 +68,8 @@ pub question_answered : (p m : Place) (sound : Type 0) (before after : List (Lis
 question_answered p m sound before after held now line told goes same written =
     replied_all p m sound before after held now (line ∷ []) goes (subst (λ (l : List ℕ). AppendsIfTold held now l) (sym (line_text p line)) written)
     (λ _. same ∙ sym (behind p before line told))
+
+-- what holds at Ok makes another thing hold at Ok
+pub at_ok : {X E P Q : Type 0} (r : Result X E) → (P → Q) → OnOk r P → OnOk r Q
+at_ok (Ok x) more held = more held
+at_ok (Err e) more held = tt

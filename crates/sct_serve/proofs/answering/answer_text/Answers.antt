@@ -1,12 +1,12 @@
 -- A round more, or what is left of it.
-use Rattle.std.proofs.Common.{◌≡◌, ◌∙◌, [], ◌++◌, ap, sym, subst, IsTrue, arith, append_assoc, rules}
+use Rattle.std.proofs.Common.{◌≡◌, ◌∙◌, [], ◌++◌, refl, ap, sym, subst, IsTrue, arith, append_assoc, rules}
 use Rattle.std.specs.Prelude.{option_map}
 use Rattle.sct_journal.specs.Kept.{ended_lines, recorded}
 use Rattle.sct_keeper.specs.Keepers.{core_of_keeper, keeper_disk}
 use Rattle.sct_serve.specs.Asides.{asked_of, place_of}
 use Rattle.sct_serve.specs.Serving.{asked}
 use Rattle.sct_serve.proofs.EarlierLemmas.{earlier_on}
-use Rattle.sct_serve.proofs.LeaveLemmas.{in_part_all, in_part_more, leaves_after, leaves_in_part, no_lines, replied_under, stops_after, stops_all, stops_in_part}
+use Rattle.sct_serve.proofs.LeaveLemmas.{in_part_all, in_part_first, in_part_more, leaves_after, leaves_in_part, no_lines, replied_under, stops_after, stops_all, stops_in_part}
 use Rattle.sct_serve.proofs.answering.answer_text.Goals as goal
 
 pub returns-in_err-answer_lines-clause-crash : goal.returns-in_err-answer_lines-clause-crash
@@ -105,3 +105,13 @@ returns-clause-stops g c quiet clean =
 pub answer_if_asked-requires-clause-earlier : goal.answer_if_asked-requires-clause-earlier
 answer_if_asked-requires-clause-earlier g c =
     earlier_on (core_of_keeper c.loop-rest.keeper) (core_of_keeper c.answer_lines.new.keeper) c.loop-rest.aside c.in_ok-answer_lines.ensures.later c.loop-rest.invariant.earlier
+
+pub loop-rest-init : goal.loop-rest-init
+loop-rest-init g c = record {
+  keeper = c.requires.keeper;
+  earlier = c.requires.earlier;
+  clean = refl;
+  part = in_part_first _ _ _ _ _;
+  quiet = refl;
+  faults = omega arith;
+}
