@@ -361,6 +361,31 @@ impl Aside {
         }
     }
 
+    // Takes the answer of the thread that has rung, if one has.
+    #[tactic(auto, using(crate::proofs::EventLemmas::told_none))]
+    fn collect_rung<K: Sink, H: Threads>(
+        &mut self,
+        rt: &H,
+        alloc: Global,
+        sink: &mut K,
+    ) -> Result<(), ServeFault>
+        ensures told { OnOk result ((site : WatchedSite) → Told (at site (asked_of self.old)) (at site (asked_of self.new)) (K.state sink.old).held (K.state sink.new).held) }
+        ensures cut_off { OnErr result ((site : WatchedSite) → CutOff (at site (asked_of self.old)) (K.state sink.old).held (K.state sink.new).held) }
+        ensures whole { OnErr result ((K.state sink.new).failures ≡ (K.state sink.old).failures → (site : WatchedSite) → EndsWhole (at site (asked_of self.old)) (K.state sink.old).held (K.state sink.new).held) }
+        ensures earlier { OnOk result ((core : Core) → AreEarlier core self.old → AreEarlier core self.new) }
+        ensures quiet { OnOk result ((K.state sink.new).failures ≡ (K.state sink.old).failures) }
+        ensures counted { IfErr result (λ e. (K.state sink.new).failures ≡ (K.state sink.old).failures + failed_writes e) }
+        ensures errors { IfErr result IsGreetingFault }
+    {
+        if !self.has_rung() {
+            return Ok(());
+        }
+        match self.collect(rt, alloc, sink) {
+            Ok(()) => Ok(()),
+            Err(fault) => Err(fault),
+        }
+    }
+
     // Writes the next part of a text, or that it is written.
     #[tactic(auto, using(crate::proofs::EventLemmas::whole_unwritten, crate::proofs::EventLemmas::told_part_at, crate::proofs::EventLemmas::cut_part_at, crate::proofs::EventLemmas::told_end_at, crate::proofs::EventLemmas::cut_end_at))]
     fn tell_from<K: Sink>(
@@ -448,10 +473,8 @@ impl Aside {
         ensures counted { IfErr result (λ e. (K.state sink.new).failures ≡ (K.state sink.old).failures + failed_writes e) }
         ensures errors { IfErr result IsGreetingFault }
     {
-        if self.has_rung() {
-            if let Err(fault) = self.collect(rt, alloc, sink) {
-                return Err(fault);
-            }
+        if let Err(fault) = self.collect_rung(rt, alloc, sink) {
+            return Err(fault);
         }
         if let Err(fault) = self.begin(rt, alloc, bell, bells, sink) {
             return Err(fault);
