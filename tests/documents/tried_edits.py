@@ -1,10 +1,10 @@
 """tried_edits.py: the list of when the other edits were tried than those of the gate is of today's files, and pages
 count all edits.
 
-Each edit has one row, and each row an edit, unless it is in the list of those that the check `edits` tries. The sum of a row is that of the edit and of src/ and specs/ of its crate as
-they are, unless the row says that the edit is to be tried later. A line says how many are. tools/edits.py writes the
-list. What it reads of a made-up crate is compared with what is there: the functions by which it tries edits, what they
-call, and what a sum rests on.
+Each edit has one row, and each row an edit, unless it is in the list of those that the check `edits` tries. The sum of
+a row is that of the edit and of src/ and specs/ of its crate as they are, unless the row says that the edit is to be
+tried later. A line says how many are. tools/edits.py writes the list. What it reads of a made-up crate is compared
+with what is there: the functions by which it tries edits, what they call, and what a sum rests on.
 """
 from __future__ import annotations
 import collections

@@ -1,1 +1,1 @@
-"""What documents say, compared with the code and with the program."""
+"""What the prover must refuse, over the libraries that it has proved."""
